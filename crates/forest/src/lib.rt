@@ -1,0 +1,157 @@
+// Forest types: their letters, read and written, and their order.
+ghost use mathlib.Core.Path.{_≡_};
+ghost use Rattle.forest.specs.Letters.{regionNumber, digitOf, written, letterNames, regionNames, named};
+ghost use Rattle.forest.specs.Order.{orderOf, sameType};
+
+pub enum Region {
+    Auckland,
+    BayOfPlenty,
+    CanterburyWestCoast,
+    Gisborne,
+    HawkesBaySouthernNorthIsland,
+    NelsonMarlborough,
+    Otago,
+    Southland,
+    WaikatoTaupo,
+}
+
+// The type of a stand, or bare land. Only Pinus radiata carries a region.
+pub enum Forest {
+    Bare,
+    Radiata(Region),
+    DouglasFir,
+    ExoticSoftwoods,
+    ExoticHardwoods,
+    Indigenous,
+}
+
+// What letters name.
+pub enum Named {
+    Listed(Forest),
+    Unlisted,
+}
+
+// The letters of a type: the first `len` bytes.
+pub struct Letters {
+    pub len: usize,
+    pub bytes: [u8; 2],
+}
+
+fn letter_names(letter: u8) -> Named
+    ensures { λ r. ⌜ r ≡ letterNames letter ⌝ }
+{
+    match letter {
+        66 => Named::Listed(Forest::Bare),
+        68 => Named::Listed(Forest::DouglasFir),
+        83 => Named::Listed(Forest::ExoticSoftwoods),
+        72 => Named::Listed(Forest::ExoticHardwoods),
+        78 => Named::Listed(Forest::Indigenous),
+        _ => Named::Unlisted,
+    }
+}
+
+fn region_names(digit: u8) -> Named
+    ensures { λ r. ⌜ r ≡ regionNames digit ⌝ }
+{
+    match digit {
+        49 => Named::Listed(Forest::Radiata(Region::Auckland)),
+        50 => Named::Listed(Forest::Radiata(Region::BayOfPlenty)),
+        51 => Named::Listed(Forest::Radiata(Region::CanterburyWestCoast)),
+        52 => Named::Listed(Forest::Radiata(Region::Gisborne)),
+        53 => Named::Listed(Forest::Radiata(Region::HawkesBaySouthernNorthIsland)),
+        54 => Named::Listed(Forest::Radiata(Region::NelsonMarlborough)),
+        55 => Named::Listed(Forest::Radiata(Region::Otago)),
+        56 => Named::Listed(Forest::Radiata(Region::Southland)),
+        57 => Named::Listed(Forest::Radiata(Region::WaikatoTaupo)),
+        _ => Named::Unlisted,
+    }
+}
+
+// The type that a part of a line names.
+pub fn read(letters: &[u8]) -> Named
+    ensures { λ r. ⌜ r ≡ named (now (letters .entry)) ⌝ }
+{
+    if letters.len() == 1 {
+        return letter_names(letters[0]);
+    }
+    if letters.len() == 2 {
+        if letters[0] == 80 {
+            return region_names(letters[1]);
+        }
+        return Named::Unlisted;
+    }
+    Named::Unlisted
+}
+
+fn region_number(region: Region) -> u8
+    ensures { λ r. ⌜ r ≡ regionNumber region ⌝ }
+{
+    match region {
+        Region::Auckland => 1,
+        Region::BayOfPlenty => 2,
+        Region::CanterburyWestCoast => 3,
+        Region::Gisborne => 4,
+        Region::HawkesBaySouthernNorthIsland => 5,
+        Region::NelsonMarlborough => 6,
+        Region::Otago => 7,
+        Region::Southland => 8,
+        Region::WaikatoTaupo => 9,
+    }
+}
+
+fn digit(region: Region) -> u8
+    ensures { λ r. ⌜ r ≡ digitOf region ⌝ }
+{
+    48 + region_number(region)
+}
+
+pub fn write(forest: Forest) -> Letters
+    ensures { λ r. ⌜ r ≡ written forest ⌝ }
+{
+    match forest {
+        Forest::Bare => Letters {
+            len: 1,
+            bytes: [66, 0],
+        },
+        Forest::Radiata(region) => Letters {
+            len: 2,
+            bytes: [80, digit(region)],
+        },
+        Forest::DouglasFir => Letters {
+            len: 1,
+            bytes: [68, 0],
+        },
+        Forest::ExoticSoftwoods => Letters {
+            len: 1,
+            bytes: [83, 0],
+        },
+        Forest::ExoticHardwoods => Letters {
+            len: 1,
+            bytes: [72, 0],
+        },
+        Forest::Indigenous => Letters {
+            len: 1,
+            bytes: [78, 0],
+        },
+    }
+}
+
+// The place of a type in the order of the schedules' columns, counted from 1; bare land has none, 0.
+pub fn order(forest: Forest) -> usize
+    ensures { λ r. ⌜ r ≡ orderOf forest ⌝ }
+{
+    match forest {
+        Forest::Bare => 0,
+        Forest::Radiata(region) => region_number(region) as usize,
+        Forest::DouglasFir => 10,
+        Forest::ExoticSoftwoods => 11,
+        Forest::ExoticHardwoods => 12,
+        Forest::Indigenous => 13,
+    }
+}
+
+pub fn same(a: Forest, b: Forest) -> bool
+    ensures { λ r. ⌜ r ≡ sameType a b ⌝ }
+{
+    order(a) == order(b)
+}

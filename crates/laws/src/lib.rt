@@ -1,0 +1,1 @@
+// Laws of lists, tests and integers that the other crates cite. No code.

@@ -1,0 +1,44 @@
+-- In a table of cases whose numbers do not fall, the first case that applies has the smallest number of all that apply:
+-- what stands before it does not apply, and what stands behind it has no smaller number.
+use Prim.Native.Nat.{ℕ, _≤_}
+use mathlib.Core.Bool.{Bool, true, false}
+use mathlib.Core.Path.{_≡_, refl, sym, ap, _∙_}
+use mathlib.Core.List.{List, [], _∷_}
+use native.Mathlib.Omega.{arith}
+use Rattle.refusals.specs.declared.Refusal.{Refusal}
+use Rattle.refusals.specs.declared.Verdict.the-variants.{Clear, Turned}
+use Rattle.refusals.specs.Refusals.{numberOf, Case, weighed, weighAll, smallest}
+
+-- no case that applies has a number below n
+unfoldable pub Least : ℕ → List Case → Type 0
+Least n [] = Unit
+Least n (c ∷ cs) = (c .applies ≡ true → n ≤ numberOf (c .refusal)) × Least n cs
+
+-- the numbers do not fall, from n on
+unfoldable pub Rising : ℕ → List Case → Type 0
+Rising n [] = Unit
+Rising n (c ∷ cs) = (n ≤ numberOf (c .refusal)) × Rising (numberOf (c .refusal)) cs
+
+turned-stands : (r : Refusal) (cs : List Case) → weighAll (Turned r) cs ≡ Turned r
+unfolding weighAll weighed
+turned-stands r [] = refl
+turned-stands r (c ∷ cs) = turned-stands r cs
+
+rising-least : (m n : ℕ) (cs : List Case) → m ≤ n → Rising n cs → Least m cs
+unfolding Least Rising
+rising-least m n [] h p = tt
+rising-least m n (c ∷ cs) h p =
+    let q = p .0 in ((λ a. omega arith), rising-least m (numberOf (c .refusal)) cs (omega arith) (p .1))
+
+pub first-is-smallest : (n : ℕ) (cs : List Case) (r : Refusal) → Rising n cs → smallest cs ≡ Turned r → Least (numberOf r) cs
+unfolding smallest weighAll weighed Least Rising
+first-is-smallest n [] r p e = tt
+first-is-smallest n (c ∷ cs) r p e = go (c .applies) refl e (first-is-smallest (numberOf (c .refusal)) cs r (p .1))
+  where
+    go : (x : Bool) → c .applies ≡ x → weighAll (weighed Clear x (c .refusal)) cs ≡ Turned r → (weighAll Clear cs ≡ Turned r → Least (numberOf r) cs)
+        → (c .applies ≡ true → numberOf r ≤ numberOf (c .refusal)) × Least (numberOf r) cs
+    go true a e rest =
+        let s : c .refusal ≡ r = cc (turned-stands (c .refusal) cs) in
+        let k : numberOf (c .refusal) ≡ numberOf r = ap numberOf s in
+        ((λ b. omega arith), rising-least (numberOf r) (numberOf (c .refusal)) cs (omega arith) (p .1))
+    go false a e rest = ((λ b. absurd (let z : _≡_ {A = Bool} true false = sym b ∙ a in let y : _≡_ {A = ℕ} 0 1 = cc in omega arith)), rest e)

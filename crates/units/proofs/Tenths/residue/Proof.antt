@@ -1,0 +1,26 @@
+-- `units::Tenths::residue` meets its contract: the products fit.
+use native.Mathlib.Omega.{arith}
+use borrow.Author.Needs.{needs}
+use Rattle.units.specs.Units.{residueOf}
+use Rattle.units.proofs.Products.{product-fits, stock-fits}
+use Rattle.units.proofs.Tenths.residue.Statement.{statement}
+use Rattle.units.proofs.Tenths.residue.Tie as tie
+
+cast-t4 : tie.Need-cast-t4
+cast-t4 c = search needs
+
+cast-t5 : tie.Need-cast-t5
+cast-t5 c = search needs
+
+mul-t6 : tie.Need-mul-t6
+mul-t6 c = let a = c .before .before .args in omega (arith, product-fits (a .self .0) (a .rate .0) (omega arith) (omega arith))
+
+mul-t8 : tie.Need-mul-t8
+mul-t8 c = let a = c .before .before .args in omega (arith, stock-fits (a .self .0) (a .rate .0) (a .share) (omega arith) (omega arith) (omega arith))
+
+returns : tie.Need-returns
+unfolding residueOf
+returns c = search needs
+
+pub residue-spec : {M : Type 1} → statement M
+residue-spec = tie.close (tie.spec cast-t4 cast-t5 mul-t6 mul-t8 returns)
