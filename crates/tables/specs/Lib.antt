@@ -1,0 +1,4 @@
+pub mod Participant
+pub mod Answers
+pub mod Bytes
+pub mod Extension
