@@ -1,7 +1,7 @@
 -- A ceiling over a whole list, read at each place and of each part; and both definitions a step at a time, as a loop goes.
 use Prim.Native.Nat.{ℕ, zero, suc, _+_, _*_, _<_, _≤_}
 use mathlib.Core.Path.{_≡_, refl, sym, ap, _∙_}
-use mathlib.Core.Bool.{Bool, true, false, cond}
+use mathlib.Core.Bool.{Bool, true, false, _&&_}
 use mathlib.Core.List.{List, [], _∷_, _++_}
 use native.Mathlib.Numerals.{add-one}
 use native.Mathlib.Omega.{arith}
@@ -11,33 +11,33 @@ use lib.Seq.{drop-cons}
 use borrow.Author.Tests.{le-leb, lt-leb, leb-true}
 use Rattle.laws.specs.Lists.{eachAtMost, sumOf}
 
--- a conjunction holds where both sides do
-pub both-left : (a b : Bool) → cond a b false ≡ true → a ≡ true
-both-left true b e = refl
-both-left false b e = e
+-- both sides of a conjunction that holds
+pub and-left : (a b : Bool) → a && b ≡ true → a ≡ true
+and-left true b e = refl
+and-left false b e = e
 
-pub both-right : (a b : Bool) → cond a b false ≡ true → b ≡ true
-both-right true b e = e
-both-right false b e = absurd (let z : _≡_ {A = ℕ} 0 1 = cc in omega arith)
+pub and-right : (a b : Bool) → a && b ≡ true → b ≡ true
+and-right true b e = e
+and-right false b e = absurd (let z : _≡_ {A = ℕ} 0 1 = cc in omega arith)
 
 module _ (m : ℕ) where
   pub ceiling-at : (xs : List ℕ) → eachAtMost m xs ≡ true → (i : ℕ) → getD xs i 0 ≤ m
   unfolding eachAtMost
   ceiling-at [] e i = omega arith
-  ceiling-at (x ∷ xs) e zero = leb-true x m (both-left (leb x m) (eachAtMost m xs) e)
-  ceiling-at (x ∷ xs) e (suc i) = ceiling-at xs (both-right (leb x m) (eachAtMost m xs) e) i
+  ceiling-at (x ∷ xs) e zero = leb-true x m (and-left (leb x m) (eachAtMost m xs) e)
+  ceiling-at (x ∷ xs) e (suc i) = ceiling-at xs (and-right (leb x m) (eachAtMost m xs) e) i
 
   pub ceiling-take : (n : ℕ) (xs : List ℕ) → eachAtMost m xs ≡ true → eachAtMost m (take n xs) ≡ true
   unfolding eachAtMost
   ceiling-take zero xs e = refl
   ceiling-take (suc n) [] e = refl
-  ceiling-take (suc n) (x ∷ xs) e = rw (both-left (leb x m) (eachAtMost m xs) e) (ceiling-take n xs (both-right (leb x m) (eachAtMost m xs) e))
+  ceiling-take (suc n) (x ∷ xs) e = rw (and-left (leb x m) (eachAtMost m xs) e) (ceiling-take n xs (and-right (leb x m) (eachAtMost m xs) e))
 
   pub ceiling-drop : (n : ℕ) (xs : List ℕ) → eachAtMost m xs ≡ true → eachAtMost m (drop n xs) ≡ true
   unfolding eachAtMost
   ceiling-drop zero xs e = e
   ceiling-drop (suc n) [] e = refl
-  ceiling-drop (suc n) (x ∷ xs) e = ceiling-drop n xs (both-right (leb x m) (eachAtMost m xs) e)
+  ceiling-drop (suc n) (x ∷ xs) e = ceiling-drop n xs (and-right (leb x m) (eachAtMost m xs) e)
 
   module _ (s : List ℕ) (i : ℕ) where
     pub each-fails : i < length s → m < getD s i 0 → eachAtMost m (drop i s) ≡ false

@@ -1,12 +1,11 @@
--- The numbers of bytes, a number at a time as the loop goes, and what writing them to the front of a buffer leaves.
+-- The numbers of bytes, a number at a time as the loop goes, and what a clear verdict says of them.
 use Prim.Native.Nat.{ℕ, suc, _+_, _*_, _/_, _%_, _<_, _≤_}
 use mathlib.Core.Path.{_≡_, refl, sym, ap, _∙_}
-use mathlib.Core.List.{List, [], _∷_, _++_}
+use mathlib.Core.List.{List, [], _∷_}
 use native.Mathlib.Numerals.{add-one}
-use native.Mathlib.Nat.{zero-add}
 use native.Mathlib.Omega.{arith}
 use lib.ListN.{length, getD, set, drop, drop-of-length-le}
-use lib.Seq.{drop-cons, sets, sets-eq}
+use lib.Seq.{drop-cons, sets}
 use borrow.Author.Tests.{eqb-true, ltb-false, not-false}
 use Rattle.refusals.specs.declared.Refusal.the-variants.{TableColumn, OutputShort}
 use Rattle.refusals.specs.declared.Verdict.the-variants.{Clear}
@@ -37,10 +36,6 @@ module _ (b : List ℕ) (i : ℕ) where
   pub numbers-end : (out : List ℕ) → length b ≤ 2 * i → out ≡ sets out i (numbersOf (drop (2 * i) b))
   unfolding numbersOf
   numbers-end out h = rw (drop-of-length-le b h)
-
--- numbers stored from the front, where there is room for them
-pub stored-in-front : (numbers buffer : List ℕ) → length numbers ≤ length buffer → sets buffer 0 numbers ≡ numbers ++ drop (length numbers) buffer
-stored-in-front numbers buffer h = simp zero-add at (sets-eq numbers buffer 0 (omega arith))
 
 -- what a clear verdict says of the bytes and the room
 pub clear-decodable : (bytes : List ℕ) (room : ℕ) → decodable bytes room ≡ Clear → (length bytes % 2 ≡ 0) × (length bytes / 2 ≤ room)

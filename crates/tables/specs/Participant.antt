@@ -42,6 +42,9 @@ isTable table = eqb (length table) 0 || hasColumns table
 unfoldable pub judged : List ℕ → Verdict
 judged table = smallest (not (isTable table) ⇒ TableColumn ∷ [])
 
--- the cells of a column by its number; what is no column has none
+-- a column by its number: its length, and its cells; what is no column has none
+unfoldable pub lengthOf : List ℕ → ℕ → ℕ
+lengthOf table number = getD (lengthsOf table) number 0
+
 unfoldable pub ownColumn : List ℕ → ℕ → List ℕ
-ownColumn table number = take (getD (lengthsOf table) number 0) (drop (columnCount + sumOf (take number (lengthsOf table))) table)
+ownColumn table number = take (lengthOf table number) (drop (columnCount + sumOf (take number (lengthsOf table))) table)

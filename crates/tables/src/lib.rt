@@ -1,20 +1,19 @@
-// The participant's table: judged, read from bytes, extended by a column, and taken apart into columns.
+// The participant's table: judged, read from bytes, and taken apart into columns.
 ghost use mathlib.Core.Path.{_≡_};
 ghost use Prim.Native.Nat.{_+_, _*_, _/_, _%_, _<_, _≤_};
 ghost use lib.ListN.{length, take, drop};
 ghost use lib.Seq.{sets};
 ghost use Rattle.laws.specs.Lists.{eachAtMost, sumOf};
-ghost use Rattle.tables.specs.Participant.{hasColumns, judged, ownColumn};
+ghost use Rattle.tables.specs.Participant.{hasColumns, judged, lengthOf, ownColumn};
 ghost use Rattle.tables.specs.Answers.{written, bufferAfter};
 ghost use Rattle.tables.specs.Bytes.{numbersOf, decodable};
-ghost use Rattle.tables.specs.Extension.{begun, isFree, longer, extensible};
 use refusals::Refusal;
 use refusals::Verdict;
 
-const COLUMNS: usize = 10;
-const LONGEST_COLUMN: u16 = 101;
+pub const COLUMNS: usize = 10;
+pub const LONGEST_COLUMN: u16 = 101;
 const LONGEST_TABLE: usize = 1020;
-const CELL_CEILING: u16 = 30000;
+pub const CELL_CEILING: u16 = 30000;
 
 // How many numbers were written, or why none were.
 pub enum Written {
@@ -22,7 +21,8 @@ pub enum Written {
     Refused(Refusal),
 }
 
-fn each_at_most(numbers: &[u16], ceiling: u16) -> bool
+// Whether no number is over the ceiling.
+pub fn each_at_most(numbers: &[u16], ceiling: u16) -> bool
     ensures { λ r. ⌜ r ≡ eachAtMost ceiling (now (numbers .entry)) ⌝ }
 {
     let mut i = 0;
@@ -49,7 +49,7 @@ fn sum(numbers: &[u16]) -> usize
 }
 
 // Ten lengths, as many cells as they say, and each within its bound.
-fn has_columns(table: &[u16]) -> bool
+pub fn has_columns(table: &[u16]) -> bool
     ensures { λ r. ⌜ r ≡ hasColumns (now (table .entry)) ⌝ }
 {
     if table.len() < COLUMNS {
@@ -86,7 +86,20 @@ pub fn part(numbers: &[u16], start: usize, len: usize) -> &[u16]
     &numbers[start..end]
 }
 
-// The cells of a column by its number, of which there are ten.
+// The length of a column by its number, of which there are ten.
+pub fn column_length(table: &[u16], number: usize) -> usize
+    ensures { λ r. ⌜ r ≡ lengthOf (now (table .entry)) number ⌝ }
+{
+    if table.len() <= number {
+        return 0;
+    }
+    if COLUMNS <= number {
+        return 0;
+    }
+    table[number] as usize
+}
+
+// The cells of a column by its number.
 pub fn column(table: &[u16], number: usize) -> &[u16]
     ensures { λ r. ⌜ now r ≡ ownColumn (now (table .entry)) number ⌝ }
 {
@@ -97,8 +110,7 @@ pub fn column(table: &[u16], number: usize) -> &[u16]
         return &table[0..0];
     }
     let start = COLUMNS + sum(&table[0..number]);
-    let len = table[number] as usize;
-    part(table, start, len)
+    part(table, start, column_length(table, number))
 }
 
 // The numbers of the bytes, two bytes a number and the low byte first, to the front of `out`.

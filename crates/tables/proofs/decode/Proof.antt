@@ -3,8 +3,9 @@ use mathlib.Core.Path.{_≡_, sym, _∙_}
 use native.Mathlib.Omega.{arith}
 use lib.ListN.{length}
 use Rattle.refusals.specs.Refusals.{weighAll, smallest}
+use Rattle.laws.proofs.Stores.{stored-in-front}
 use Rattle.tables.specs.Bytes.{decodable, numbersOf}
-use Rattle.tables.proofs.Numbers.{number-count, stored-in-front, clear-decodable}
+use Rattle.tables.proofs.Numbers.{number-count, clear-decodable}
 use Rattle.tables.proofs.Answers.{when-turned, when-clear}
 use borrow.Author.Needs.{needs}
 use Rattle.tables.proofs.decode.Statement.{statement}
