@@ -1,10 +1,10 @@
 -- No rate is over 30,000 tenths: a cell is one of its column, and a column is a part of a table that keeps the ceiling.
 use Prim.Native.Nat.{ℕ, _-_, _≤_, min}
 use mathlib.Core.Path.{_≡_, refl}
-use mathlib.Core.Bool.{Bool, true, false, cond, _||_}
+use mathlib.Core.Bool.{Bool, true, false, cond, _&&_, _||_}
 use mathlib.Core.List.{List}
 use native.Mathlib.Omega.{arith}
-use lib.Dec.{eqb, ltb}
+use lib.Dec.{eqb, leb, ltb}
 use borrow.Author.Tests.{eqb-true}
 use lib.ListN.{length, getD, take, drop, drop-of-length-le}
 use lib.Seq.{drop-drop}
@@ -16,7 +16,7 @@ use Rattle.schedules.specs.declared.Place.{Place}
 use Rattle.schedules.specs.Columns.{Column, listed}
 use Rattle.schedules.specs.Schedules.{cellCeiling, schedule4, schedule6, placeFour, placeSix}
 use Rattle.schedules.proofs.Ceiling.{four-ceiling, six-ceiling}
-use Rattle.tables.specs.Participant.{lengthsOf, cellsOf, hasColumns, isTable, lengthOf, ownColumn}
+use Rattle.tables.specs.Participant.{columnCount, longestColumn, lengthsOf, cellsOf, hasColumns, isTable, lengthOf, ownColumn}
 use Rattle.rates.specs.Rates.{ownNumber, atPlace, consulted, cellAt, rateSix, rateFour}
 
 -- a column that keeps the ceiling
@@ -44,7 +44,10 @@ table-cells own h = go (eqb (length own) 0) refl h
   where
     go : (t : Bool) → eqb (length own) 0 ≡ t → t || hasColumns own ≡ true → eachAtMost cellCeiling (cellsOf own) ≡ true
     go true e k = let empty : length own ≡ 0 = eqb-true _ _ e in rw (drop-of-length-le own {i = 10} (omega arith))
-    go false e k = and-right _ _ k
+    go false e k =
+        and-right
+        (leb columnCount (length own) && eqb (length (cellsOf own)) (sumOf (lengthsOf own)) && eachAtMost longestColumn (lengthsOf own))
+        (eachAtMost cellCeiling (cellsOf own)) k
 
 own-kept : (own : List ℕ) (number : ℕ) → isTable own ≡ true → Kept (listed 0 (ownColumn own number))
 unfolding ownColumn
