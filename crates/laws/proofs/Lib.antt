@@ -1,1 +1,3 @@
+pub mod Lists
 pub mod Signed
+pub mod Standing

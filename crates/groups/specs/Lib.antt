@@ -1,0 +1,2 @@
+pub mod Predominance
+pub mod Sums
