@@ -1,2 +1,4 @@
 pub mod Leading
+pub mod Mean
+pub mod Order
 pub mod Turns

@@ -88,7 +88,10 @@ pub fn mean_age(groups: [Group; 64], count: usize, forest: Forest) -> u64
     if area == 0 {
         return 0;
     }
-    (2 * age + area) / (2 * area)
+    if 2 * (age % area) < area {
+        return age / area;
+    }
+    age / area + 1
 }
 
 fn comes_before(total: u64, species: u16, other_total: u64, other: u16) -> bool
