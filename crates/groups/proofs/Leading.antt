@@ -1,10 +1,10 @@
--- The predominant group found in order: the first leads at first, and each further group is set against the leader.
-use Prim.Native.Nat.{ℕ, _+_, _<_, _≤_}
+-- The predominant group found in order: the first leads at first, and of a leader and a further group the totals tell which leads.
+use Prim.Native.Nat.{ℕ, _<_}
 use mathlib.Core.Bool.{Bool, cond}
 use mathlib.Core.Path.{_≡_, sym, ap, _∙_}
 use mathlib.Core.List.{List, _∷_, foldl}
 use lib.ListN.{length, take, drop, getD}
-use Rattle.laws.proofs.Standing.{standing-next, standing-end, standing-out}
+use Rattle.laws.proofs.Standing.{standing-next}
 use Rattle.groups.specs.declared.Group.{Group}
 use Rattle.groups.specs.Sums.{speciesArea}
 use Rattle.groups.specs.Predominance.{comesBefore, leading, predominantOf}
@@ -21,13 +21,3 @@ first-leads all g rest e = ap (λ (l : List Group). foldl (leading l) g rest) e 
 
 pub lead-first : (gs : List Group) (n : ℕ) (d : Group) → 0 < n → 0 < length gs → foldl (leading (take n gs)) (getD gs 0 d) (drop 1 (take n gs)) ≡ predominantOf (take n gs)
 lead-first gs n d p q = first-leads (take n gs) (getD gs 0 d) (drop 1 (take n gs)) (standing-next gs n 0 d p q)
-
-module _ (all gs : List Group) (n i : ℕ) (leader last : Group) (h : foldl (leading all) leader (drop i (take n gs)) ≡ last) where
-  pub lead-end : n ≤ i → leader ≡ last
-  lead-end p = simp (standing-end gs n i p) at h
-
-  pub lead-out : length gs ≤ i → leader ≡ last
-  lead-out p = simp (standing-out gs n i p) at h
-
-  pub lead-more : (d next : Group) → i < n → i < length gs → next ≡ leading all leader (getD gs i d) → foldl (leading all) next (drop (i + 1) (take n gs)) ≡ last
-  lead-more d next p q e = rw e (simp (standing-next gs n i d p q) at h)

@@ -1,4 +1,3 @@
 pub mod Leading
 pub mod Mean
 pub mod Order
-pub mod Turns

@@ -5,6 +5,7 @@ use mathlib.Core.Path.{_≡_, refl, sym, ap, _∙_}
 use mathlib.Core.List.{List, [], _∷_, List·Memᴰ, List·Memᴰ·head, List·Memᴰ·tail}
 use native.Mathlib.Omega.{arith}
 use native.Mathlib.Nat.{zero-add, mul-comm, mul-add, add-mul, mul-left-comm, mul-le-mul-right, le-div-iff-mul-le, div-lt-iff-lt-mul, div-add-mod, mod-lt}
+use Rattle.laws.specs.Lists.{sumOf}
 use Rattle.forest.specs.declared.Forest.{Forest}
 use Rattle.groups.specs.declared.Group.{Group}
 use Rattle.groups.specs.Sums.{ofType, area, weightedAge, sumOver, weightsOf, halfUp, meanAge}
@@ -33,20 +34,22 @@ module _ (n d : ℕ) (some : 0 < d) where
   rounds-up h = let r : n % d < d = mod-lt n some in sym (half-up (n / d + 1) (omega (arith, div-add-mod n d, add-mul (n / d) 1 (2 * d), mul-left-comm (n / d) 2 d, mul-comm (n / d) d)) (omega (arith, div-add-mod n d, add-mul (n / d) 1 (2 * d), mul-left-comm (n / d) 2 d, mul-comm (n / d) d)))
 
 -- every group of the type is between lo and hi years old
-pub Between : List Group → Forest → ℕ → ℕ → Type 0
+abbrev pub Between : List Group → Forest → ℕ → ℕ → Type 0
 Between gs forest lo hi = (g : Group) → List·Memᴰ g gs → ofType forest g ≡ true → (lo ≤ g .age) × (g .age ≤ hi)
 
 module _ (forest : Forest) (lo hi : ℕ) where
   weights-between : (gs : List Group) → Between gs forest lo hi
       → (lo * sumOver (ofType forest) area gs ≤ sumOver (ofType forest) weightedAge gs) × (sumOver (ofType forest) weightedAge gs ≤ hi * sumOver (ofType forest) area gs)
-  unfolding sumOver Between
+  unfolding sumOf
   weights-between [] b = (omega arith, omega arith)
   weights-between (g ∷ gs) b = go (ofType forest g) refl (weights-between gs (λ h m. b h (List·Memᴰ·tail m)))
     where
       A : ℕ
       A = sumOver (ofType forest) area gs
+
       W : ℕ
       W = sumOver (ofType forest) weightedAge gs
+
       go : (t : Bool) → ofType forest g ≡ t → (lo * A ≤ W) × (W ≤ hi * A) → (lo * (cond t (area g) 0 + A) ≤ cond t (weightedAge g) 0 + W) × (cond t (weightedAge g) 0 + W ≤ hi * (cond t (area g) 0 + A))
       go true e rest =
           let own = b g (List·Memᴰ·head refl) e in
@@ -63,6 +66,6 @@ module _ (forest : Forest) (lo hi : ℕ) where
 
 -- a type that has a group with some basal area has some
 pub area-positive : (forest : Forest) (g : Group) (gs : List Group) → List·Memᴰ g gs → ofType forest g ≡ true → 0 < area g → 0 < sumOver (ofType forest) area gs
-unfolding sumOver
+unfolding sumOf
 area-positive forest g (h ∷ gs) (List·Memᴰ·head e) t z = rw (← e, t) (omega arith)
 area-positive forest g (h ∷ gs) (List·Memᴰ·tail m) t z = omega (arith, area-positive forest g gs m t z)

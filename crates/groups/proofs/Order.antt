@@ -78,12 +78,15 @@ module _ (gs : List Group) where
     where
       next : Group
       next = leading gs leader g
+
       within : List·Memᴰ l (next ∷ rest) → List·Memᴰ l (leader ∷ g ∷ rest)
       within (List·Memᴰ·head e) =
           ⊎-elim (λ (f : next ≡ leader). List·Memᴰ·head (e ∙ f)) (λ (f : next ≡ g). List·Memᴰ·tail (List·Memᴰ·head (e ∙ f))) (leads leader g .one)
       within (List·Memᴰ·tail m) = List·Memᴰ·tail (List·Memᴰ·tail m)
+
       ahead-next : Ahead gs l next
       ahead-next = k .all next (List·Memᴰ·head refl)
+
       over : (h : Group) → List·Memᴰ h (leader ∷ g ∷ rest) → Ahead gs l h
       over h (List·Memᴰ·head e) = rw e (ahead-carries l next leader ahead-next (leads leader g .first))
       over h (List·Memᴰ·tail (List·Memᴰ·head e)) = rw e (ahead-carries l next g ahead-next (leads leader g .second))

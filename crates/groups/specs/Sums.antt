@@ -1,8 +1,9 @@
 -- Basal area by species and by type, and the mean age of a type.
 use Prim.Native.Nat.{ℕ, _+_, _*_, _/_}
 use mathlib.Core.Bool.{Bool, cond}
-use mathlib.Core.List.{List, [], _∷_}
+use mathlib.Core.List.{List}
 use lib.Dec.{eqb}
+use Rattle.laws.specs.Lists.{sumOf}
 use Rattle.forest.specs.declared.Forest.{Forest}
 use Rattle.forest.specs.Order.{sameType}
 use Rattle.groups.specs.declared.Group.{Group}
@@ -22,9 +23,8 @@ abbrev pub weightedAge : Group → ℕ
 weightedAge g = g .age * g .«basal_area»
 
 -- the sum of a measure over the groups that pass a test
-unfoldable pub sumOver : (Group → Bool) → (Group → ℕ) → List Group → ℕ
-sumOver passes measure [] = 0
-sumOver passes measure (g ∷ gs) = cond (passes g) (measure g) 0 + sumOver passes measure gs
+abbrev pub sumOver : (Group → Bool) → (Group → ℕ) → List Group → ℕ
+sumOver passes measure gs = sumOf (λ g. cond (passes g) (measure g) 0) gs
 
 -- the total basal area of a species
 unfoldable pub speciesArea : List Group → ℕ → ℕ

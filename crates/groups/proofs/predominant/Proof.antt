@@ -6,8 +6,9 @@ use native.Mathlib.Omega.{arith}
 use borrow.Author.Needs.{needs}
 use lib.ListN.{length, take, drop}
 use Rattle.laws.proofs.Standing.{as-long}
+use Rattle.laws.proofs.Turns.{fold-end, fold-out, fold-more}
 use Rattle.groups.specs.Predominance.{leading, predominantOf}
-use Rattle.groups.proofs.Leading.{lead-first, lead-end, lead-out, lead-more}
+use Rattle.groups.proofs.Leading.{lead-first}
 use Rattle.groups.proofs.predominant.Statement.{statement}
 use Rattle.groups.proofs.predominant.Tie as tie
 
@@ -33,7 +34,7 @@ loop-holds c =
     lead-first (s .args .t1) (s .args .count) _ (omega arith) (omega (arith, long s))
 
 returns-2 : tie.Need-returns-2 Inv-loop μ-loop
-returns-2 c = lead-end _ _ _ _ _ _ (c .before .before .loop .inv) (c .if2 .taken)
+returns-2 c = fold-end _ _ _ _ _ _ (c .before .before .loop .inv) (c .if2 .taken)
 
 mul-g : tie.Need-mul-g Inv-loop μ-loop
 mul-g c = search needs
@@ -53,13 +54,13 @@ loop-less c = search needs
 loop-again : tie.Need-loop-again Inv-loop μ-loop
 loop-again c =
     let b = c .before .before .before .before in
-    lead-more _ _ _ _ _ _ (b .loop .inv) _ _ (c .before .before .if2 .left) (omega (arith, long (b .before .before .before))) (c .lead .ensures)
+    fold-more _ _ _ _ _ _ (b .loop .inv) _ _ (c .before .before .if2 .left) (omega (arith, long (b .before .before .before))) (c .lead .ensures)
 
 returns-3 : tie.Need-returns-3 Inv-loop μ-loop
 returns-3 c =
     let b = c .before in
     let s = b .before .before .before in
-    lead-out _ (s .args .t1) (s .args .count) (b .loop .i) _ _ (b .loop .inv) (omega (arith, long s))
+    fold-out (leading (take (s .args .count) (s .args .t1))) (s .args .t1) (s .args .count) (b .loop .i) _ _ (b .loop .inv) (omega (arith, long s))
 
 pub predominant-spec : {M : Type 1} → statement M
 predominant-spec =

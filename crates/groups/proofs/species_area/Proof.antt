@@ -1,12 +1,12 @@
 -- `groups::species_area` meets its contract: the sum so far and that of the groups left make the species' total.
 use Prim.Native.Nat.{_+_, _*_, _-_, _≤_}
-use mathlib.Core.Path.{_≡_, refl}
+use mathlib.Core.Path.{_≡_}
 use native.Mathlib.Omega.{arith}
 use borrow.Author.Needs.{needs}
 use lib.ListN.{length, take, drop}
 use Rattle.laws.proofs.Standing.{as-long}
+use Rattle.laws.proofs.Turns.{sum-end, sum-out, sum-more}
 use Rattle.groups.specs.Sums.{ofSpecies, area, sumOver, speciesArea}
-use Rattle.groups.proofs.Turns.{sum-end, sum-out, sum-more}
 use Rattle.groups.proofs.species_area.Statement.{statement}
 use Rattle.groups.proofs.species_area.Tie as tie
 
@@ -26,7 +26,7 @@ unfolding speciesArea
 loop-holds c = (omega arith, search needs)
 
 returns : tie.Need-returns Inv-loop μ-loop
-returns c = sum-end _ _ _ _ _ _ _ (c .before .before .loop .inv .0) (c .if1 .taken)
+returns c = sum-end _ _ _ _ _ _ (c .before .before .loop .inv .0) (c .if1 .taken)
 
 mul-g : tie.Need-mul-g Inv-loop μ-loop
 mul-g c = search needs
@@ -49,13 +49,13 @@ loop-less c = search needs
 loop-again : tie.Need-loop-again Inv-loop μ-loop
 loop-again c =
     let b = c .before .before .before .before .before in
-    (sum-more _ _ _ _ _ _ _ (b .loop .inv .0) _ _ _ (c .before .before .before .if1 .left) (omega (arith, long (b .before))) refl (c .area-if .ensures .0), omega arith)
+    (sum-more _ _ _ _ _ _ (b .loop .inv .0) _ _ (c .before .before .before .if1 .left) (omega (arith, long (b .before))) (c .area-if .ensures .0), omega arith)
 
 returns-2 : tie.Need-returns-2 Inv-loop μ-loop
 returns-2 c =
     let b = c .before in
     let a = b .before .args in
-    sum-out (ofSpecies (a .species)) area (a .t1) (a .count) (b .loop .i) _ _ (b .loop .inv .0) (omega (arith, long (b .before)))
+    sum-out _ (a .t1) (a .count) (b .loop .i) _ _ (b .loop .inv .0) (omega (arith, long (b .before)))
 
 pub species-area-spec : {M : Type 1} → statement M
 species-area-spec =

@@ -1,12 +1,13 @@
 -- `groups::type_weights` meets its contract: both sums so far and those of the groups left make the type's.
-use Prim.Native.Nat.{_+_, _*_, _-_, _≤_}
-use mathlib.Core.Path.{_≡_}
+use Prim.Native.Nat.{ℕ, _+_, _*_, _-_, _≤_}
+use mathlib.Core.Bool.{Bool, cond}
+use mathlib.Core.Path.{_≡_, ap, _∙_}
 use native.Mathlib.Omega.{arith}
 use borrow.Author.Needs.{needs}
 use lib.ListN.{length, take, drop}
 use Rattle.laws.proofs.Standing.{as-long}
+use Rattle.laws.proofs.Turns.{sum-end, sum-out, sum-more}
 use Rattle.groups.specs.Sums.{ofType, area, weightedAge, sumOver, weightsOf}
-use Rattle.groups.proofs.Turns.{sum-end, sum-out, sum-more}
 use Rattle.groups.proofs.type_weights.Statement.{statement}
 use Rattle.groups.proofs.type_weights.Tie as tie
 
@@ -24,6 +25,9 @@ abbrev μ-loop : tie.MeasureT-loop
 long : (c : tie.Start Inv-loop μ-loop) → length (c .args .t1) ≡ 64
 long c = search (needs, as-long)
 
+counted : (t passes : Bool) (m x : ℕ) → t ≡ passes → x ≡ cond t m 0 → x ≡ cond passes m 0
+counted t passes m x e f = f ∙ ap (λ (b : Bool). cond b m 0) e
+
 loop-holds : tie.Need-loop-holds Inv-loop μ-loop
 unfolding weightsOf
 loop-holds c = (omega arith, omega arith, search needs, search needs, search needs)
@@ -31,8 +35,8 @@ loop-holds c = (omega arith, omega arith, search needs, search needs, search nee
 returns : tie.Need-returns Inv-loop μ-loop
 returns c =
     let v = c .before .before .loop .inv in
-    let a = sum-end _ _ _ _ _ _ _ (v .0) (c .if1 .taken) in
-    let w = sum-end _ _ _ _ _ _ _ (v .1) (c .if1 .taken) in
+    let a = sum-end _ _ _ _ _ _ (v .0) (c .if1 .taken) in
+    let w = sum-end _ _ _ _ _ _ (v .1) (c .if1 .taken) in
     ((λ i. record { area = a i; age = w i }), omega arith, omega arith)
 
 mul-g : tie.Need-mul-g Inv-loop μ-loop
@@ -66,12 +70,13 @@ loop-again : tie.Need-loop-again Inv-loop μ-loop
 loop-again c =
     let b = c .before .before .before .before .before .before in
     let counts = c .before .before .same .ensures in
-    let stands = c .before .before .before .before .if1 .left in
-    (sum-more _ _ _ _ _ _ _ (b .loop .inv .0) _ _ _ stands (omega (arith, long (b .before))) counts (c .before .area-if .ensures .0),
-    sum-more _ _ _ _ _ _ _ (b .loop .inv .1) _ _ _ stands (omega (arith, long (b .before))) counts (c .weighted-if .ensures .0),
-    omega arith,
-    omega arith,
-    omega arith)
+    let stands = c .before .before .before .before .if1 .left in (
+      sum-more _ _ _ _ _ _ (b .loop .inv .0) _ _ stands (omega (arith, long (b .before))) (counted _ _ _ _ counts (c .before .area-if .ensures .0)),
+      sum-more _ _ _ _ _ _ (b .loop .inv .1) _ _ stands (omega (arith, long (b .before))) (counted _ _ _ _ counts (c .weighted-if .ensures .0)),
+      omega arith,
+      omega arith,
+      omega arith,
+    )
 
 returns-2 : tie.Need-returns-2 Inv-loop μ-loop
 returns-2 c =
@@ -79,8 +84,8 @@ returns-2 c =
     let v = b .loop .inv in
     let a = b .before .args in
     let out : length (a .t1) ≤ b .loop .i = omega (arith, long (b .before)) in
-    let e = sum-out (ofType (a .forest)) area (a .t1) (a .count) (b .loop .i) _ _ (v .0) out in
-    let f = sum-out (ofType (a .forest)) weightedAge (a .t1) (a .count) (b .loop .i) _ _ (v .1) out in
+    let e = sum-out _ (a .t1) (a .count) (b .loop .i) _ _ (v .0) out in
+    let f = sum-out _ (a .t1) (a .count) (b .loop .i) _ _ (v .1) out in
     ((λ i. record { area = e i; age = f i }), omega arith, omega arith)
 
 pub type-weights-spec : {M : Type 1} → statement M
