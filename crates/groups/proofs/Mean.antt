@@ -5,7 +5,7 @@ use mathlib.Core.Path.{_≡_, refl, sym, ap, _∙_}
 use mathlib.Core.List.{List, [], _∷_, List·Memᴰ, List·Memᴰ·head, List·Memᴰ·tail}
 use native.Mathlib.Omega.{arith}
 use native.Mathlib.Nat.{zero-add, mul-comm, mul-add, add-mul, mul-left-comm, mul-le-mul-right, le-div-iff-mul-le, div-lt-iff-lt-mul, div-add-mod, mod-lt}
-use Rattle.laws.specs.Lists.{sumOf}
+use Rattle.laws.specs.Elements.{sumBy}
 use Rattle.forest.specs.declared.Forest.{Forest}
 use Rattle.groups.specs.declared.Group.{Group}
 use Rattle.groups.specs.Sums.{ofType, area, weightedAge, sumOver, weightsOf, halfUp, meanAge}
@@ -40,7 +40,7 @@ Between gs forest lo hi = (g : Group) → List·Memᴰ g gs → ofType forest g 
 module _ (forest : Forest) (lo hi : ℕ) where
   weights-between : (gs : List Group) → Between gs forest lo hi
       → (lo * sumOver (ofType forest) area gs ≤ sumOver (ofType forest) weightedAge gs) × (sumOver (ofType forest) weightedAge gs ≤ hi * sumOver (ofType forest) area gs)
-  unfolding sumOf
+  unfolding sumBy
   weights-between [] b = (omega arith, omega arith)
   weights-between (g ∷ gs) b = go (ofType forest g) refl (weights-between gs (λ h m. b h (List·Memᴰ·tail m)))
     where
@@ -66,6 +66,6 @@ module _ (forest : Forest) (lo hi : ℕ) where
 
 -- a type that has a group with some basal area has some
 pub area-positive : (forest : Forest) (g : Group) (gs : List Group) → List·Memᴰ g gs → ofType forest g ≡ true → 0 < area g → 0 < sumOver (ofType forest) area gs
-unfolding sumOf
+unfolding sumBy
 area-positive forest g (h ∷ gs) (List·Memᴰ·head e) t z = rw (← e, t) (omega arith)
 area-positive forest g (h ∷ gs) (List·Memᴰ·tail m) t z = omega (arith, area-positive forest g gs m t z)

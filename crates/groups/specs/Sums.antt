@@ -3,7 +3,7 @@ use Prim.Native.Nat.{ℕ, _+_, _*_, _/_}
 use mathlib.Core.Bool.{Bool, cond}
 use mathlib.Core.List.{List}
 use lib.Dec.{eqb}
-use Rattle.laws.specs.Lists.{sumOf}
+use Rattle.laws.specs.Elements.{sumBy}
 use Rattle.forest.specs.declared.Forest.{Forest}
 use Rattle.forest.specs.Order.{sameType}
 use Rattle.groups.specs.declared.Group.{Group}
@@ -24,7 +24,7 @@ weightedAge g = g .age * g .«basal_area»
 
 -- the sum of a measure over the groups that pass a test
 abbrev pub sumOver : (Group → Bool) → (Group → ℕ) → List Group → ℕ
-sumOver passes measure gs = sumOf (λ g. cond (passes g) (measure g) 0) gs
+sumOver passes measure gs = sumBy (λ g. cond (passes g) (measure g) 0) gs
 
 -- the total basal area of a species
 unfoldable pub speciesArea : List Group → ℕ → ℕ

@@ -1,4 +1,5 @@
-pub mod Lists
+pub mod Choosing
+pub mod Elements
 pub mod Signed
 pub mod Standing
 pub mod Turns

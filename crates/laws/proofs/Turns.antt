@@ -6,8 +6,8 @@ use mathlib.Core.Path.{_≡_, sym, _∙_}
 use mathlib.Core.List.{List, foldl}
 use native.Mathlib.Omega.{arith}
 use lib.ListN.{length, take, drop, getD}
-use Rattle.laws.specs.Lists.{some, sumOf}
-use Rattle.laws.proofs.Lists.{or-none, or-assoc}
+use Rattle.laws.specs.Elements.{some, sumBy}
+use Rattle.laws.proofs.Elements.{or-none, or-assoc}
 use Rattle.laws.proofs.Standing.{standing-next, standing-end, standing-out}
 
 module _ {A B : Type 0} (f : B → A → B) (l : List A) (n i : ℕ) (b whole : B) (h : foldl f b (drop i (take n l)) ≡ whole) where
@@ -20,17 +20,17 @@ module _ {A B : Type 0} (f : B → A → B) (l : List A) (n i : ℕ) (b whole : 
   pub fold-more : (d : A) (next : B) → i < n → i < length l → next ≡ f b (getD l i d) → foldl f next (drop (i + 1) (take n l)) ≡ whole
   fold-more d next p q e = rw e (simp (standing-next l n i d p q) at h)
 
-module _ {A : Type 0} (f : A → ℕ) (l : List A) (n i sum whole : ℕ) (h : sum + sumOf f (drop i (take n l)) ≡ whole) where
+module _ {A : Type 0} (f : A → ℕ) (l : List A) (n i sum whole : ℕ) (h : sum + sumBy f (drop i (take n l)) ≡ whole) where
   pub sum-end : n ≤ i → sum ≡ whole
-  unfolding sumOf
+  unfolding sumBy
   sum-end p = omega (arith, simp (standing-end l n i p) at h)
 
   pub sum-out : length l ≤ i → sum ≡ whole
-  unfolding sumOf
+  unfolding sumBy
   sum-out p = omega (arith, simp (standing-out l n i p) at h)
 
-  pub sum-more : (d : A) (x : ℕ) → i < n → i < length l → x ≡ f (getD l i d) → sum + x + sumOf f (drop (i + 1) (take n l)) ≡ whole
-  unfolding sumOf
+  pub sum-more : (d : A) (x : ℕ) → i < n → i < length l → x ≡ f (getD l i d) → sum + x + sumBy f (drop (i + 1) (take n l)) ≡ whole
+  unfolding sumBy
   sum-more d x p q e = omega (arith, simp (standing-next l n i d p q) at h)
 
 module _ {A : Type 0} (test : A → Bool) (l : List A) (n i : ℕ) (found whole : Bool) (h : (found || some test (drop i (take n l))) ≡ whole) where

@@ -5,7 +5,8 @@ use mathlib.Core.List.{List, [], _∷_, List·Memᴰ}
 use native.Mathlib.Omega.{arith}
 use native.Mathlib.Nat.{div-zero}
 use borrow.Author.Tests.{eq-eqb}
-use Rattle.laws.specs.Lists.{sumOf}
+use Rattle.laws.specs.Elements.{sumBy}
+use Rattle.laws.proofs.Choosing.{Best}
 use Rattle.refusals.specs.declared.Refusal.{Refusal}
 use Rattle.refusals.specs.declared.Verdict.{Verdict}
 use Rattle.refusals.specs.declared.Verdict.the-variants.{Clear, Turned as Refused}
@@ -15,7 +16,7 @@ use Rattle.forest.specs.declared.Forest.{Forest}
 use Rattle.groups.specs.declared.Group.{Group}
 use Rattle.groups.specs.Sums.{ofType, area, weightsOf, halfUp, sumOver, meanAge}
 use Rattle.groups.specs.Predominance.{predominantOf}
-use Rattle.groups.proofs.Order.{Foremost, predominant-foremost}
+use Rattle.groups.proofs.Order.{Ahead, predominant-best}
 use Rattle.groups.proofs.Mean.{Between, mean-between, area-positive}
 use Rattle.trees.specs.declared.Hectare.the-variants.{Of, Turned}
 use Rattle.trees.specs.Hectares.{cases, answerOf, hectareOf}
@@ -23,7 +24,7 @@ use Rattle.trees.proofs.Judged.{Judged, judged}
 
 pub record Determined (gs : List Group) (forest : Forest) (age : ℕ) : Type 0 where
   pub leader : Group
-  pub foremost : Foremost gs leader
+  pub predominant : Best (Ahead gs) gs leader
   pub its-type : (h : Group) → List·Memᴰ h gs → h .species ≡ leader .species → h .forest ≡ forest
   pub mean : age ≡ meanAge gs forest
   pub between : (lo hi : ℕ) → Between gs forest lo hi → (lo ≤ age) × (age ≤ hi)
@@ -34,14 +35,14 @@ module _ (count : ℕ) (g : Group) (gs : List Group) (ok : Judged count (g ∷ g
 
   type-has-area : 0 < sumOver (ofType (l .forest)) area (g ∷ gs)
   type-has-area =
-      let here = predominant-foremost g gs .listed in
+      let here = predominant-best g gs .listed in
       area-positive (l .forest) l (g ∷ gs) here (eq-eqb (orderOf (l .forest)) (orderOf (l .forest)) refl) (ok .ranges l here .some-area)
 
   of-leader : Determined (g ∷ gs) (l .forest) (meanAge (g ∷ gs) (l .forest))
   of-leader = record {
     leader = l;
-    foremost = predominant-foremost g gs;
-    its-type = λ h m e. ok .one-type l h (predominant-foremost g gs .listed) m e;
+    predominant = predominant-best g gs;
+    its-type = λ h m e. ok .one-type l h (predominant-best g gs .listed) m e;
     mean = refl;
     between = λ lo hi b. mean-between (l .forest) lo hi (g ∷ gs) b type-has-area;
   }
@@ -58,7 +59,7 @@ determined count g gs forest age e = go (smallest (cases count (g ∷ gs))) refl
         rw (← a, ← f) (of-leader count g gs (judged count (g ∷ gs) c))
 
 mean-at-most : (count : ℕ) (gs : List Group) → smallest (cases count gs) ≡ Clear → meanAge gs (predominantOf gs .forest) ≤ 300
-unfolding meanAge weightsOf halfUp sumOf
+unfolding meanAge weightsOf halfUp sumBy
 mean-at-most count [] c = omega (arith, div-zero 0)
 mean-at-most count (g ∷ gs) c =
     let ok = judged count (g ∷ gs) c in

@@ -3,7 +3,7 @@ use Prim.Native.Nat.{ℕ}
 use mathlib.Core.Path.{_≡_, refl}
 use mathlib.Core.List.{List, [], _∷_}
 use lib.ListN.{length}
-use Rattle.laws.specs.Lists.{some, sumOf}
+use Rattle.laws.specs.Elements.{some, sumBy}
 use Rattle.refusals.specs.Refusals.{weighed, weighAll, smallest}
 use Rattle.forest.specs.declared.Region.the-variants.{Auckland}
 use Rattle.forest.specs.declared.Forest.{Forest}
@@ -33,5 +33,5 @@ AllHold [] = Unit
 AllHold (e ∷ es) = (hectareOf (length (e .0)) (e .0) ≡ e .1) × AllHold es
 
 pub marked-hold : AllHold marked
-unfolding AllHold some sumOf weighed weighAll smallest speciesArea weightsOf halfUp meanAge leading predominantOf faultsOf cases answerOf hectareOf
+unfolding AllHold some sumBy weighed weighAll smallest speciesArea weightsOf halfUp meanAge leading predominantOf faultsOf cases answerOf hectareOf
 marked-hold = (refl, (refl, (refl, tt)))

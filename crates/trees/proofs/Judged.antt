@@ -6,8 +6,8 @@ use mathlib.Core.List.{List, List·Memᴰ}
 use native.Mathlib.Omega.{arith}
 use borrow.Author.Tests.{ltb-false, eqb-false, eq-eqb}
 use lib.Dec.{eqb, ltb}
-use Rattle.laws.specs.Lists.{some}
-use Rattle.laws.proofs.Lists.{or-false-left, or-false-right, none-passes}
+use Rattle.laws.specs.Elements.{some}
+use Rattle.laws.proofs.Elements.{or-false-left, or-false-right, none-passes}
 use Rattle.refusals.specs.declared.Refusal.the-variants.{ForestType, TreeList}
 use Rattle.refusals.specs.declared.Verdict.{Verdict}
 use Rattle.refusals.specs.declared.Verdict.the-variants.{Clear}

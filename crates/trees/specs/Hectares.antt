@@ -3,7 +3,7 @@ use Prim.Native.Nat.{ℕ}
 use mathlib.Core.Bool.{Bool, not, _&&_, _||_}
 use mathlib.Core.List.{List, [], _∷_}
 use lib.Dec.{eqb, ltb}
-use Rattle.laws.specs.Lists.{some}
+use Rattle.laws.specs.Elements.{some}
 use Rattle.refusals.specs.declared.Refusal.the-variants.{ForestType, TreeList}
 use Rattle.refusals.specs.declared.Verdict.{Verdict}
 use Rattle.refusals.specs.declared.Verdict.the-variants.{Clear, Turned as Refused}
