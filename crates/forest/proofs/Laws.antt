@@ -26,6 +26,14 @@ nine-regions Otago = lit≤ tt
 nine-regions Southland = lit≤ tt
 nine-regions WaikatoTaupo = lit≤ tt
 
+pub thirteen-types : (f : Forest) → orderOf f ≤ 13
+thirteen-types Bare = lit≤ tt
+thirteen-types (Radiata r) = let h = nine-regions r in omega arith
+thirteen-types DouglasFir = lit≤ tt
+thirteen-types ExoticSoftwoods = lit≤ tt
+thirteen-types ExoticHardwoods = lit≤ tt
+thirteen-types Indigenous = lit≤ tt
+
 -- what bytes name, by how many they are
 pub one-byte : (s : List ℕ) → length s ≡ 1 → letterNames (getD s 0 0) ≡ named s
 unfolding named

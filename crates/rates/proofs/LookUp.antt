@@ -1,0 +1,61 @@
+-- The look-up by where the age lies, and the column consulted by its length.
+use Prim.Native.Nat.{ℕ, _+_, _-_, _<_, _≤_, min}
+use mathlib.Core.Path.{_≡_, refl, sym, ap, _∙_}
+use mathlib.Core.Bool.{Bool, true, false, cond}
+use mathlib.Core.List.{List, []}
+use native.Mathlib.Omega.{arith}
+use borrow.Author.Tests.{lt-ltb, le-ltb, eq-eqb, ne-eqb}
+use lib.Dec.{eqb, lit≤}
+use lib.ListN.{length, getD, List·getD-eq-default}
+use Rattle.forest.specs.declared.Forest.{Forest}
+use Rattle.forest.specs.declared.Forest.the-variants.{Bare, Radiata, DouglasFir, ExoticSoftwoods, ExoticHardwoods, Indigenous}
+use Rattle.schedules.specs.declared.Kind.{Kind}
+use Rattle.schedules.specs.Columns.{Column, listed}
+use Rattle.schedules.specs.Schedules.{placeSix}
+use Rattle.tables.specs.Participant.{lengthOf, ownColumn}
+use Rattle.rates.specs.Rates.{ownStock, ownNumber, atPlace, consulted, firstAge, cellAt}
+
+module _ (first : ℕ) (cells : List ℕ) (age : ℕ) where
+  pub below-first : age < first → 0 ≡ cellAt (listed first cells) age
+  unfolding cellAt
+  below-first h = simp (lt-ltb _ _ h)
+
+  pub without-cells : first ≤ age → length cells ≡ 0 → 0 ≡ cellAt (listed first cells) age
+  unfolding cellAt
+  without-cells h e = simp (le-ltb _ _ h) (sym (List·getD-eq-default cells 0 {n = min (age - first) (length cells - 1)} (omega arith)))
+
+  pub within : first ≤ age → age - first < length cells → getD cells (age - first) 0 ≡ cellAt (listed first cells) age
+  unfolding cellAt
+  within h i = simp (le-ltb _ _ h) (ap (λ (k : ℕ). getD cells k 0) (omega arith))
+
+  pub beyond-last : first ≤ age → length cells ≤ age - first → getD cells (length cells - 1) 0 ≡ cellAt (listed first cells) age
+  unfolding cellAt
+  beyond-last h i = simp (le-ltb _ _ h) (ap (λ (k : ℕ). getD cells k 0) (omega arith))
+
+pub at-most-ten : (f : Forest) → ownStock f ≤ 10
+at-most-ten Bare = lit≤ tt
+at-most-ten (Radiata r) = lit≤ tt
+at-most-ten DouglasFir = lit≤ tt
+at-most-ten ExoticSoftwoods = lit≤ tt
+at-most-ten ExoticHardwoods = lit≤ tt
+at-most-ten Indigenous = lit≤ tt
+
+module _ (own default : List ℕ) (kind : Kind) (forest : Forest) where
+  pub defaults : lengthOf own (ownNumber kind forest) ≡ 0 → consulted own default kind forest ≡ atPlace default (placeSix kind forest)
+  unfolding consulted
+  defaults e = simp (eq-eqb _ _ e)
+
+  pub participants : (lengthOf own (ownNumber kind forest) ≡ 0 → ⊥) → consulted own default kind forest ≡ listed 0 (ownColumn own (ownNumber kind forest))
+  unfolding consulted
+  participants e = simp (ne-eqb _ _ e)
+
+-- the first age does not hang on the default's cells
+pub first-of-any : (own default : List ℕ) (kind : Kind) (forest : Forest) → firstAge own kind forest ≡ consulted own default kind forest .first
+unfolding consulted
+first-of-any own default kind forest = go (eqb (lengthOf own (ownNumber kind forest)) 0)
+  where
+    go : (t : Bool)
+        → cond t (atPlace [] (placeSix kind forest)) (listed 0 (ownColumn own (ownNumber kind forest))) .first
+        ≡ cond t (atPlace default (placeSix kind forest)) (listed 0 (ownColumn own (ownNumber kind forest))) .first
+    go true = refl
+    go false = refl

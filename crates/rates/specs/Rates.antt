@@ -1,0 +1,57 @@
+-- The column consulted, and the look-up of a cell by age. `own` is the participant's table, `default` the cells of Schedule 6 as they are lent.
+use Prim.Native.Nat.{ℕ, _+_, _-_, min}
+use mathlib.Core.Bool.{cond}
+use mathlib.Core.List.{List, []}
+use lib.Dec.{eqb, ltb}
+use lib.ListN.{length, getD, take, drop}
+use Rattle.units.specs.declared.Rate.{Rate}
+use Rattle.forest.specs.declared.Forest.{Forest}
+use Rattle.forest.specs.declared.Forest.the-variants.{Bare, Radiata, DouglasFir, ExoticSoftwoods, ExoticHardwoods, Indigenous}
+use Rattle.schedules.specs.declared.Kind.{Kind}
+use Rattle.schedules.specs.declared.Kind.the-variants.{Stock, Residue}
+use Rattle.schedules.specs.declared.Place.{Place}
+use Rattle.schedules.specs.Columns.{Column, listed}
+use Rattle.schedules.specs.Schedules.{placeFour, placeSix}
+use Rattle.tables.specs.Participant.{columnCount, lengthOf, ownColumn}
+
+-- "for stock of P, D, S, H, N, then residue in that order"; "P serves all regions"; bare land has no column
+abbrev pub ownStock : Forest → ℕ
+ownStock Bare = columnCount
+ownStock (Radiata region) = 0
+ownStock DouglasFir = 1
+ownStock ExoticSoftwoods = 2
+ownStock ExoticHardwoods = 3
+ownStock Indigenous = 4
+
+abbrev pub ownNumber : Kind → Forest → ℕ
+ownNumber Stock forest = ownStock forest
+ownNumber Residue forest = 5 + ownStock forest
+
+-- a schedule's column, read off its cells
+abbrev pub atPlace : List ℕ → Place → Column
+atPlace cells place = listed (place .first) (take (place .len) (drop (place .start) cells))
+
+-- "The column consulted is the participant's, or the default one where that length is 0 (002, 6.1)." The participant's are by "ages from 0".
+unfoldable pub consulted : List ℕ → List ℕ → Kind → Forest → Column
+consulted own default kind forest =
+    cond (eqb (lengthOf own (ownNumber kind forest)) 0)
+    (atPlace default (placeSix kind forest))
+    (listed 0 (ownColumn own (ownNumber kind forest)))
+
+-- its first age, which the default's cells do not bear on
+abbrev pub firstAge : List ℕ → Kind → Forest → ℕ
+firstAge own kind forest = consulted own [] kind forest .first
+
+-- "Look-up: beyond the last age, the last cell; below the first listed age, 0." A column without cells "gives 0".
+unfoldable pub cellAt : Column → ℕ → ℕ
+cellAt column age =
+    cond (ltb age (column .first)) 0
+    (getD (column .cells) (min (age - column .first) (length (column .cells) - 1)) 0)
+
+-- the rate of post-1989 forest land
+unfoldable pub rateSix : List ℕ → List ℕ → Kind → Forest → ℕ → Rate
+rateSix own default kind forest age = record { 0 = cellAt (consulted own default kind forest) age }
+
+-- the rate of pre-1990 forest land, by the cells of Schedule 4
+unfoldable pub rateFour : List ℕ → Forest → ℕ → Rate
+rateFour cells forest age = record { 0 = cellAt (atPlace cells (placeFour forest)) age }

@@ -1,0 +1,104 @@
+// The column consulted, the look-up of a cell by age, and the decay of residue.
+ghost use mathlib.Core.Path.{_≡_};
+ghost use Rattle.schedules.specs.Columns.{listed};
+ghost use Rattle.rates.specs.Rates.{ownStock, ownNumber, consulted, firstAge, cellAt, rateSix, rateFour};
+ghost use Rattle.rates.specs.Decay.{shareAfter};
+use forest::Forest;
+use schedules::Kind;
+use units::Rate;
+
+// The tenths of a residue that are left, by the years since the clearing.
+const SHARES: [u8; 11] = [10, 9, 8, 7, 6, 5, 4, 3, 2, 1, 0];
+
+pub fn share(years: u16) -> u8
+    ensures { λ r. ⌜ r ≡ shareAfter years ⌝ }
+{
+    let i = years as usize;
+    if i < 11 {
+        return SHARES[i];
+    }
+    0
+}
+
+// The participant's stock column of a type; 10 is none.
+fn own_stock(forest: Forest) -> usize
+    ensures { λ r. ⌜ r ≡ ownStock forest ⌝ }
+{
+    match forest {
+        Forest::Bare => 10,
+        Forest::Radiata(_) => 0,
+        Forest::DouglasFir => 1,
+        Forest::ExoticSoftwoods => 2,
+        Forest::ExoticHardwoods => 3,
+        Forest::Indigenous => 4,
+    }
+}
+
+fn own_number(kind: Kind, forest: Forest) -> usize
+    ensures { λ r. ⌜ r ≡ ownNumber kind forest ⌝ }
+{
+    let stock = own_stock(forest);
+    match kind {
+        Kind::Stock => stock,
+        Kind::Residue => 5 + stock,
+    }
+}
+
+// The cells of the column consulted: a part of the participant's table or, where that column has none, of the default one.
+pub fn column<'a>(own: &'a [u16], default: &'a [u16], kind: Kind, forest: Forest) -> &'a [u16]
+    ensures { λ r. ⌜ now r ≡ consulted (now (own .entry)) (now (default .entry)) kind forest .cells ⌝ }
+{
+    let number = own_number(kind, forest);
+    if tables::column_length(own, number) == 0 {
+        let place = schedules::place_six(kind, forest);
+        return tables::part(default, place.start, place.len);
+    }
+    tables::column(own, number)
+}
+
+// The first age of the column consulted.
+fn first_age(own: &[u16], kind: Kind, forest: Forest) -> usize
+    ensures { λ r. ⌜ r ≡ firstAge (now (own .entry)) kind forest ⌝ }
+{
+    if tables::column_length(own, own_number(kind, forest)) == 0 {
+        let place = schedules::place_six(kind, forest);
+        return place.first;
+    }
+    0
+}
+
+// The cell of a column at an age.
+fn cell_at(cells: &[u16], first: usize, age: u16) -> u16
+    ensures { λ r. ⌜ r ≡ cellAt (listed first (now (cells .entry))) age ⌝ }
+{
+    let age = age as usize;
+    if age < first {
+        return 0;
+    }
+    if cells.len() == 0 {
+        return 0;
+    }
+    let i = age - first;
+    if i < cells.len() {
+        return cells[i];
+    }
+    cells[cells.len() - 1]
+}
+
+// The rate of post-1989 forest land: the participant's table and the cells of Schedule 6 are lent.
+pub fn rate_six<'a>(own: &'a [u16], default: &'a [u16], kind: Kind, forest: Forest, age: u16) -> Rate
+    ensures { λ r. ⌜ r ≡ rateSix (now (own .entry)) (now (default .entry)) kind forest age ⌝ }
+{
+    let cells = column(own, default, kind, forest);
+    let first = first_age(own, kind, forest);
+    Rate(cell_at(cells, first, age))
+}
+
+// The rate of pre-1990 forest land: the cells of Schedule 4 are lent.
+pub fn rate_four(cells: &[u16], forest: Forest, age: u16) -> Rate
+    ensures { λ r. ⌜ r ≡ rateFour (now (cells .entry)) forest age ⌝ }
+{
+    let place = schedules::place_four(forest);
+    let column = tables::part(cells, place.start, place.len);
+    Rate(cell_at(column, place.first, age))
+}

@@ -1,0 +1,29 @@
+-- `schedules::place_four` meets its contract: the constant's places are the columns', which antt computes.
+use mathlib.Core.Path.{ap}
+use Prim.Native.Nat.{ℕ}
+use mathlib.Core.List.{_∷_}
+use lib.ListN.{getD}
+use native.Mathlib.Omega.{arith}
+use borrow.Author.Needs.{needs}
+use Rattle.forest.proofs.Laws.{thirteen-types}
+use Rattle.schedules.specs.Columns.{nowhere, placesFrom}
+use Rattle.schedules.specs.Cells.{stock4}
+use Rattle.schedules.specs.Schedules.{placeFour}
+use Rattle.schedules.proofs.place_four.Statement.{statement}
+use Rattle.schedules.proofs.place_four.Tie as tie
+
+order-requires : tie.Need-order-requires
+order-requires c κs = search needs
+
+mul-result : tie.Need-mul-result
+mul-result c = omega (arith, thirteen-types (c .before .args .forest))
+
+array-copy-out-result : tie.Need-array-copy-out-result
+array-copy-out-result c = omega (arith, thirteen-types (c .before .args .forest))
+
+returns : tie.Need-returns
+unfolding placeFour placesFrom stock4
+returns c = ap (λ (k : ℕ). getD (nowhere ∷ placesFrom 0 stock4) k nowhere) (c .before .order .ensures)
+
+pub place-four-spec : {M : Type 1} → statement M
+place-four-spec = tie.close (tie.spec order-requires mul-result array-copy-out-result returns)

@@ -1,0 +1,38 @@
+-- `tables::has_columns` meets its contract, test by test.
+use borrow.Author.Tests.{lt-leb, le-leb}
+use Rattle.tables.specs.Participant.{hasColumns}
+use Rattle.tables.proofs.Parts.{to-the-end}
+use borrow.Author.Needs.{needs}
+use Rattle.tables.proofs.has_columns.Statement.{statement}
+use Rattle.tables.proofs.has_columns.Tie as tie
+
+returns : tie.Need-returns
+unfolding hasColumns
+returns c = simp (lt-leb _ _ (c .if1 .taken))
+
+returns-2 : tie.Need-returns-2
+unfolding hasColumns
+returns-2 c = 
+    simp (
+      le-leb _ _ (c .before .before .before .before .before .if1 .left),
+      c .before .before .sum .ensures .0,
+      c .before .each-at-most .ensures,
+      c .each-at-most2 .ensures,
+      to-the-end (c .before .before .before .before .before .before .before .args .table .now) 10,
+    )
+
+pub has-columns-spec : {M : Type 1} → statement M
+has-columns-spec =
+    tie.close
+    (tie.spec
+    returns
+    (λ c. search needs)
+    (λ c. search needs)
+    (λ c. search needs)
+    (λ c. search needs)
+    (λ c. search needs)
+    (λ c. search needs)
+    (λ c κs. search needs)
+    (λ c κs. search needs)
+    (λ c κs. search needs)
+    returns-2)

@@ -1,0 +1,3 @@
+pub mod Participant
+pub mod Answers
+pub mod Bytes

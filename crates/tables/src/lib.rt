@@ -1,0 +1,147 @@
+// The participant's table: judged, read from bytes, and taken apart into columns.
+ghost use mathlib.Core.Path.{_≡_};
+ghost use Prim.Native.Nat.{_+_, _*_, _/_, _%_, _<_, _≤_};
+ghost use lib.ListN.{length, take, drop};
+ghost use lib.Seq.{sets};
+ghost use Rattle.laws.specs.Lists.{eachAtMost, sumOf};
+ghost use Rattle.tables.specs.Participant.{hasColumns, judged, lengthOf, ownColumn};
+ghost use Rattle.tables.specs.Answers.{written, bufferAfter};
+ghost use Rattle.tables.specs.Bytes.{numbersOf, decodable};
+use refusals::Refusal;
+use refusals::Verdict;
+
+pub const COLUMNS: usize = 10;
+pub const LONGEST_COLUMN: u16 = 101;
+const LONGEST_TABLE: usize = 1020;
+pub const CELL_CEILING: u16 = 30000;
+
+// How many numbers were written, or why none were.
+pub enum Written {
+    Count(usize),
+    Refused(Refusal),
+}
+
+// Whether no number is over the ceiling.
+pub fn each_at_most(numbers: &[u16], ceiling: u16) -> bool
+    ensures { λ r. ⌜ r ≡ eachAtMost ceiling (now (numbers .entry)) ⌝ }
+{
+    let mut i = 0;
+    while i < numbers.len() {
+        if ceiling < numbers[i] {
+            return false;
+        }
+        i += 1;
+    }
+    true
+}
+
+fn sum(numbers: &[u16]) -> usize
+    requires { ⌜ length (now numbers) ≤ 10 ⌝ }
+    ensures { λ r. ⌜ (r ≡ sumOf (now (numbers .entry))) × (r ≤ 655350) ⌝ }
+{
+    let mut sum: usize = 0;
+    let mut i = 0;
+    while i < numbers.len() {
+        sum += numbers[i] as usize;
+        i += 1;
+    }
+    sum
+}
+
+// Ten lengths, as many cells as they say, and each within its bound.
+pub fn has_columns(table: &[u16]) -> bool
+    ensures { λ r. ⌜ r ≡ hasColumns (now (table .entry)) ⌝ }
+{
+    if table.len() < COLUMNS {
+        return false;
+    }
+    let lengths = &table[0..COLUMNS];
+    let cells = &table[COLUMNS..];
+    let whole = cells.len() == sum(lengths);
+    let short = each_at_most(lengths, LONGEST_COLUMN);
+    let low = each_at_most(cells, CELL_CEILING);
+    whole & short & low
+}
+
+// Whether a list of numbers is a participant's table, or the empty list, which is none.
+pub fn judge(table: &[u16]) -> Verdict
+    ensures { λ r. ⌜ r ≡ judged (now (table .entry)) ⌝ }
+{
+    let none = table.len() == 0;
+    let kept = has_columns(table);
+    refusals::weigh(Verdict::Clear, !(none | kept), Refusal::TableColumn)
+}
+
+// The part of `len` numbers from `start`, or as much of it as there is.
+pub fn part(numbers: &[u16], start: usize, len: usize) -> &[u16]
+    ensures { λ r. ⌜ now r ≡ take len (drop start (now (numbers .entry))) ⌝ }
+{
+    if numbers.len() <= start {
+        return &numbers[0..0];
+    }
+    if numbers.len() - start <= len {
+        return &numbers[start..];
+    }
+    let end = start + len;
+    &numbers[start..end]
+}
+
+// The length of a column by its number, of which there are ten.
+pub fn column_length(table: &[u16], number: usize) -> usize
+    ensures { λ r. ⌜ r ≡ lengthOf (now (table .entry)) number ⌝ }
+{
+    if table.len() <= number {
+        return 0;
+    }
+    if COLUMNS <= number {
+        return 0;
+    }
+    table[number] as usize
+}
+
+// The cells of a column by its number.
+pub fn column(table: &[u16], number: usize) -> &[u16]
+    ensures { λ r. ⌜ now r ≡ ownColumn (now (table .entry)) number ⌝ }
+{
+    if table.len() < COLUMNS {
+        return &table[0..0];
+    }
+    if COLUMNS <= number {
+        return &table[0..0];
+    }
+    let start = COLUMNS + sum(&table[0..number]);
+    part(table, start, column_length(table, number))
+}
+
+// The numbers of the bytes, two bytes a number and the low byte first, to the front of `out`.
+fn put_numbers(bytes: &[u8], out: &mut [u16])
+    requires { ⌜ (length (now bytes) % 2 ≡ 0) × (length (now bytes) / 2 ≤ length (now out)) ⌝ }
+    ensures { λ _. ⌜ now (out .exit) ≡ sets (now (out .entry)) 0 (numbersOf (now (bytes .entry))) ⌝ }
+{
+    let n = bytes.len() / 2;
+    let mut i = 0;
+    while i < n {
+        let low = bytes[2 * i] as u16;
+        let high = bytes[2 * i + 1] as u16;
+        out[i] = low + 256 * high;
+        i += 1;
+    }
+}
+
+// A table's bytes to its numbers, at the front of `out`.
+pub fn decode(bytes: &[u8], out: &mut [u16]) -> Written
+    ensures { λ r. ⌜ r ≡ written (decodable (now (bytes .entry)) (length (now (out .entry)))) (numbersOf (now (bytes .entry))) ⌝ }
+    ensures { λ _. ⌜ now (out .exit) ≡ bufferAfter (decodable (now (bytes .entry)) (length (now (out .entry)))) (numbersOf (now (bytes .entry))) (now (out .entry)) ⌝ }
+{
+    let n = bytes.len() / 2;
+    let v = refusals::weigh(Verdict::Clear, bytes.len() % 2 != 0, Refusal::TableColumn);
+    let v = refusals::weigh(v, LONGEST_TABLE < n, Refusal::TableColumn);
+    let v = refusals::weigh(v, out.len() < n, Refusal::OutputShort);
+    match v {
+        Verdict::Turned(refusal) => Written::Refused(refusal),
+        Verdict::Clear => {
+            put_numbers(bytes, out);
+            Written::Count(n)
+        }
+    }
+}
