@@ -22,8 +22,8 @@ module _ (table : List ℕ) (column : ℕ) (cells : List ℕ) (h : column < 10) 
   longer-is =
       sym (append-assoc (set (take 10 table) column (length cells)) (drop 10 table) cells)
       ∙ ap (λ (l : List ℕ). l ++ cells)
-          (sym (set-append-left (take 10 table) (drop 10 table) column (length cells) (simp length-take (omega arith)))
-          ∙ ap (λ (l : List ℕ). set l column (length cells)) (take-append-drop 10 table))
+      (sym (set-append-left (take 10 table) (drop 10 table) column (length cells) (simp length-take (omega arith)))
+      ∙ ap (λ (l : List ℕ). set l column (length cells)) (take-append-drop 10 table))
 
   pub longer-length : length (longer table column cells) ≡ length table + length cells
   longer-length = rw longer-is (simp (length-append, length-set))

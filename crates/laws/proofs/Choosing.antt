@@ -1,8 +1,14 @@
 -- The best of a list, chosen by setting each further element against the best so far: it is in the list, and ahead of every element.
 -- Being ahead carries over from one to the next, and of two the one chosen is ahead of both.
+use Prim.Native.Nat.{ℕ, _≤_}
+use mathlib.Core.Bool.{Bool, true, false, _&&_, _||_}
 use mathlib.Core.Logic.{_⊎_, ⊎-elim}
 use mathlib.Core.Path.{_≡_, refl, _∙_}
 use mathlib.Core.List.{List, [], _∷_, foldl, List·Memᴰ, List·Memᴰ·head, List·Memᴰ·tail, List·Memᴰ·cases-cons, List·Memᴰ·not-nil}
+use native.Mathlib.Omega.{arith}
+use borrow.Author.Tests.{ltb-true, ltb-false, eqb-true, eqb-false}
+use lib.Dec.{eqb, ltb}
+use Rattle.laws.specs.Elements.{outranks}
 
 -- of two, one is chosen that is ahead of both
 pub record Choice {A : Type 0} (Ahead : A → A → Type 0) (best a chosen : A) : Type 0 where
@@ -40,3 +46,20 @@ module _ {A : Type 0} (Ahead : A → A → Type 0) (choose : A → A → A) (sel
     ahead = λ a m. ⊎-elim (λ (e : a ≡ first). rw e (self first)) (λ (n : List·Memᴰ a []). absurd (List·Memᴰ·not-nil n)) (List·Memᴰ·cases-cons m);
   }
   chosen-best first (a ∷ l) = one-more first a l (foldl choose first (a ∷ l)) (chosen-best (choose first a) l)
+
+-- what it says of two numbers that one outranks the other, or does not
+pub outranks-true : (a b : ℕ) (tie : Bool) → outranks a b tie ≡ true → (b ≤ a) × (b ≡ a → tie ≡ true)
+outranks-true a b tie e = go (ltb b a) refl (eqb a b) refl e
+  where
+    go : (p : Bool) → ltb b a ≡ p → (q : Bool) → eqb a b ≡ q → (p || (q && tie)) ≡ true → (b ≤ a) × (b ≡ a → tie ≡ true)
+    go true p q r e = (omega (arith, ltb-true b a p), λ z. absurd (omega (arith, ltb-true b a p)))
+    go false p true r e = (omega (arith, eqb-true a b r), λ z. e)
+    go false p false r e = absurd (let z : _≡_ {A = ℕ} 0 1 = cc in omega arith)
+
+pub outranks-false : (a b : ℕ) (tie : Bool) → outranks a b tie ≡ false → (a ≤ b) × (a ≡ b → tie ≡ false)
+outranks-false a b tie e = go (ltb b a) refl (eqb a b) refl e
+  where
+    go : (p : Bool) → ltb b a ≡ p → (q : Bool) → eqb a b ≡ q → (p || (q && tie)) ≡ false → (a ≤ b) × (a ≡ b → tie ≡ false)
+    go true p q r e = absurd (let z : _≡_ {A = ℕ} 0 1 = cc in omega arith)
+    go false p true r e = (ltb-false b a p, λ z. e)
+    go false p false r e = (ltb-false b a p, λ z. absurd (eqb-false a b r z))

@@ -86,7 +86,13 @@ fn cell_at(cells: &[u16], first: usize, age: u16) -> u16
 }
 
 // The rate of post-1989 forest land: the participant's table and the cells of Schedule 6 are lent.
-pub fn rate_six<'a>(own: &'a [u16], default: &'a [u16], kind: Kind, forest: Forest, age: u16) -> Rate
+pub fn rate_six<'a>(
+    own: &'a [u16],
+    default: &'a [u16],
+    kind: Kind,
+    forest: Forest,
+    age: u16,
+) -> Rate
     ensures { λ r. ⌜ r ≡ rateSix (now (own .entry)) (now (default .entry)) kind forest age ⌝ }
 {
     let cells = column(own, default, kind, forest);

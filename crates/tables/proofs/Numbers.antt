@@ -41,8 +41,7 @@ module _ (b : List ℕ) (i : ℕ) where
 pub clear-decodable : (bytes : List ℕ) (room : ℕ) → decodable bytes room ≡ Clear → (length bytes % 2 ≡ 0) × (length bytes / 2 ≤ room)
 unfolding decodable smallest weighAll
 clear-decodable bytes room e =
-    let before = clear-before _ _ OutputShort e in
-    (
+    let before = clear-before _ _ OutputShort e in (
       eqb-true _ _ (not-false _ (clear-last Clear _ TableColumn (clear-before _ _ TableColumn before))),
       ltb-false _ _ (clear-last _ _ OutputShort e),
     )

@@ -11,8 +11,11 @@ use refusals::Refusal;
 use refusals::Verdict;
 
 pub const COLUMNS: usize = 10;
+
 pub const LONGEST_COLUMN: u16 = 101;
+
 const LONGEST_TABLE: usize = 1020;
+
 pub const CELL_CEILING: u16 = 30000;
 
 // How many numbers were written, or why none were.

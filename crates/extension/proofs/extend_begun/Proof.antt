@@ -10,18 +10,18 @@ use Rattle.extension.proofs.extend_begun.Statement.{statement}
 use Rattle.extension.proofs.extend_begun.Tie as tie
 
 put-longer-requires : tie.Need-put-longer-requires
-put-longer-requires c κs = 
+put-longer-requires c κs =
     let a = c .before .before .before .before .before .before .before .args in
     let e = clear-extensible (a .table .now) (a .column) (a .cells .now) (length (a .out .now)) (sym (c .before .before .before .judge .ensures) ∙ c .before .enum-told .given .1) in
     ((e .in-range, e .whole), (e .short, e .room-for))
 
 returns : tie.Need-returns
-returns c = 
+returns c =
     let a = c .before .before .before .before .before .before .before .args in
     when-turned _ (longer (a .table .now) (a .column) (a .cells .now)) (a .out .now) _ (sym (c .before .before .before .judge .ensures) ∙ c .before .v .given .1)
 
 returns-2 : tie.Need-returns-2
-returns-2 c = 
+returns-2 c =
     let a = c .before .before .before .before .before .before .before .before .before .before .args in
     let clear = sym (c .before .before .before .before .before .before .judge .ensures) ∙ c .before .before .before .before .enum-told .given .1 in
     let e = clear-extensible (a .table .now) (a .column) (a .cells .now) (length (a .out .now)) clear in

@@ -11,12 +11,12 @@ use Rattle.extension.proofs.is_free.Tie as tie
 
 returns : tie.Need-returns
 unfolding isFree
-returns c = 
+returns c =
     let a = c .before .before .before .before .args in
     c .each-at-most .ensures
     ∙ ap (eachAtMost 0)
-        (c .before .part2 .ensures
-        ∙ rw (c .before .before .part .ensures) (take-all 10 (drop (a .column) (take 10 (a .table .now))) (simp (length-drop, length-take) (omega arith))))
+    (c .before .part2 .ensures
+    ∙ rw (c .before .before .part .ensures) (take-all 10 (drop (a .column) (take 10 (a .table .now))) (simp (length-drop, length-take) (omega arith))))
 
 pub is-free-spec : {M : Type 1} → statement M
 is-free-spec =

@@ -7,7 +7,7 @@ use Rattle.extension.proofs.judge.Tie as tie
 
 returns : tie.Need-returns
 unfolding extensible smallest weighAll
-returns c = 
+returns c =
     simp (
       c .weigh7 .ensures,
       c .before .weigh6 .ensures,

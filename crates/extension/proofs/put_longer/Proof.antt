@@ -17,7 +17,7 @@ same-length : tie.Need-same-length
 same-length c = omega (arith, c .before .before .put-all2 .kept .1 .0, simp length-set at (c .before .before .put-all2 .kept .1 .0), c .before .before .before .before .before .before .put-all .kept .1 .0)
 
 returns : tie.Need-returns
-returns c = 
+returns c =
     let s = c .before .before .before .before .before .before .before .before .before .before .before in
     let a = s .args in
     c .before .before .put-all2 .ensures

@@ -11,7 +11,7 @@ use Rattle.rates.proofs.column.Statement.{statement}
 use Rattle.rates.proofs.column.Tie as tie
 
 returns : tie.Need-returns
-returns c = 
+returns c =
     let a = c .before .before .before .before .before .before .before .args in
     let own = a .own .now in
     let zero-long = sym (ap (lengthOf own) (c .before .before .before .before .own-number .ensures)) ∙ sym (c .before .before .before .column-length .ensures) ∙ c .before .before .if1 .taken in
@@ -20,7 +20,7 @@ returns c =
     ∙ sym (ap (λ (k : Column). k .cells) (defaults own (a .default .now) (a .kind) (a .forest) zero-long))
 
 returns-2 : tie.Need-returns-2
-returns-2 c = 
+returns-2 c =
     let a = c .before .before .before .before .before .before .args in
     let own = a .own .now in
     let long = ap (lengthOf own) (c .before .before .before .own-number .ensures) in

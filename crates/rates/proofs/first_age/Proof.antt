@@ -11,14 +11,14 @@ use Rattle.rates.proofs.first_age.Statement.{statement}
 use Rattle.rates.proofs.first_age.Tie as tie
 
 returns : tie.Need-returns
-returns c = 
+returns c =
     let a = c .before .before .before .before .before .args in
     let own = a .own .now in
     let zero-long = sym (ap (lengthOf own) (c .before .before .before .own-number .ensures)) ∙ sym (c .before .before .column-length .ensures) ∙ c .before .if1 .taken in
     ap (λ (p : Place). p .first) (c .place-six .ensures) ∙ sym (ap (λ (k : Column). k .first) (defaults own [] (a .kind) (a .forest) zero-long))
 
 returns-2 : tie.Need-returns-2
-returns-2 c = 
+returns-2 c =
     let a = c .before .before .before .before .args in
     let own = a .own .now in
     let long = ap (lengthOf own) (c .before .before .own-number .ensures) in

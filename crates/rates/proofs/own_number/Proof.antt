@@ -13,7 +13,7 @@ add-result : tie.Need-add-result
 add-result c = omega (arith, at-most-ten (c .before .before .before .args .forest))
 
 returns-2 : tie.Need-returns-2
-returns-2 c = 
+returns-2 c =
     ap (λ (n : ℕ). 5 + n) (c .before .before .own-stock .ensures)
     ∙ sym (ap (λ (kind : Kind). ownNumber kind (c .before .before .before .args .forest)) (c .enum-told2 .given .1))
 

@@ -15,12 +15,12 @@ rate n = record { 0 = n }
 
 returns : tie.Need-returns
 unfolding rateFour
-returns c = 
+returns c =
     let a = c .before .before .before .before .args in
     ap rate
-        (c .cell-at .ensures
-        ∙ ap (λ (l : List ℕ). cellAt (listed (c .before .before .place-four .result .first) l) (a .age)) (c .before .part .ensures)
-        ∙ ap (λ (p : Place). cellAt (atPlace (a .cells .now) p) (a .age)) (c .before .before .place-four .ensures))
+    (c .cell-at .ensures
+    ∙ ap (λ (l : List ℕ). cellAt (listed (c .before .before .place-four .result .first) l) (a .age)) (c .before .part .ensures)
+    ∙ ap (λ (p : Place). cellAt (atPlace (a .cells .now) p) (a .age)) (c .before .before .place-four .ensures))
 
 pub rate-four-spec : {M : Type 1} → statement M
 rate-four-spec =

@@ -15,13 +15,13 @@ rate n = record { 0 = n }
 
 returns : tie.Need-returns
 unfolding rateSix
-returns c = 
+returns c =
     let a = c .before .before .before .before .before .args in
     let first = c .before .first-age .ensures ∙ first-of-any (a .own .now) (a .default .now) (a .kind) (a .forest) in
     ap rate
-        (c .cell-at .ensures
-        ∙ ap (λ (l : List ℕ). cellAt (listed (c .before .first-age .result) l) (a .age)) (c .before .before .column .ensures)
-        ∙ ap (λ (n : ℕ). cellAt (listed n (consulted (a .own .now) (a .default .now) (a .kind) (a .forest) .cells)) (a .age)) first)
+    (c .cell-at .ensures
+    ∙ ap (λ (l : List ℕ). cellAt (listed (c .before .first-age .result) l) (a .age)) (c .before .before .column .ensures)
+    ∙ ap (λ (n : ℕ). cellAt (listed n (consulted (a .own .now) (a .default .now) (a .kind) (a .forest) .cells)) (a .age)) first)
 
 pub rate-six-spec : {M : Type 1} → statement M
 rate-six-spec =

@@ -16,7 +16,7 @@ returns-2 : tie.Need-returns-2
 returns-2 c = no-column (c .before .before .before .before .args .table .now) _ (c .before .if2 .taken)
 
 returns-3 : tie.Need-returns-3
-returns-3 c = 
+returns-3 c =
     let a = c .before .before .before .before .before .before .before .args in
     let t = a .table .now in
     c .part .ensures

@@ -17,17 +17,17 @@ unfolding decodable smallest weighAll
 verdict c = simp (c .weigh3 .ensures, c .before .weigh2 .ensures, c .before .before .weigh .ensures)
 
 put-numbers-requires : tie.Need-put-numbers-requires
-put-numbers-requires c κs = 
+put-numbers-requires c κs =
     let a = c .before .before .before .before .before .before .before .before .args in
     clear-decodable (a .bytes .now) (length (a .out .now)) (sym (verdict (c .before .before .before)) ∙ c .before .enum-told .given .1)
 
 returns : tie.Need-returns
-returns c = 
+returns c =
     let a = c .before .before .before .before .before .before .before .before .args in
     when-turned _ (numbersOf (a .bytes .now)) (a .out .now) _ (sym (verdict (c .before .before .before)) ∙ c .before .v .given .1)
 
 returns-2 : tie.Need-returns-2
-returns-2 c = 
+returns-2 c =
     let a = c .before .before .before .before .before .before .before .before .before .before .before .args in
     let clear = sym (verdict (c .before .before .before .before .before .before)) ∙ c .before .before .before .before .enum-told .given .1 in
     let room = clear-decodable (a .bytes .now) (length (a .out .now)) clear .1 in

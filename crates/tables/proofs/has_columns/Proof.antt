@@ -12,7 +12,7 @@ returns c = simp (lt-leb _ _ (c .if1 .taken))
 
 returns-2 : tie.Need-returns-2
 unfolding hasColumns
-returns-2 c = 
+returns-2 c =
     simp (
       le-leb _ _ (c .before .before .before .before .before .if1 .left),
       c .before .before .sum .ensures .0,

@@ -30,12 +30,12 @@ mul-out : tie.Need-mul-out Inv-loop μ-loop
 mul-out c = omega (arith, c .shared-slice-known2 .given (2 * c .before .before .before .loop .i + 1))
 
 add-out : tie.Need-add-out Inv-loop μ-loop
-add-out c = 
+add-out c =
     let i = c .before .before .before .loop .i in
     omega (arith, c .shared-slice-known2 .given (2 * i + 1), c .before .shared-slice-known .given (2 * i))
 
 loop-again : tie.Need-loop-again Inv-loop μ-loop
-loop-again c = 
+loop-again c =
     let l = c .before .before .before .loop in (
       search needs,
       simp length-set (l .inv .1),
