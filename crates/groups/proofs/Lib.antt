@@ -1,3 +1,1 @@
-pub mod Leading
 pub mod Mean
-pub mod Order

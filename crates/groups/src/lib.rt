@@ -1,4 +1,4 @@
-// The tree groups of one hectare: basal area by species and by type, the predominant species, the mean age of a type.
+// The tree groups of one hectare: basal area by species, and the mean age of a type.
 // The groups are the first `count` of the array.
 use forest::Forest;
 ghost use mathlib.Core.Path.{_≡_};
@@ -6,7 +6,6 @@ ghost use mathlib.Core.Bool.{cond};
 ghost use Prim.Native.Nat.{_≤_};
 ghost use lib.ListN.{take};
 ghost use Rattle.groups.specs.Sums.{area, weightedAge, speciesArea, weightsOf, meanAge};
-ghost use Rattle.groups.specs.Predominance.{comesBefore, leading, predominantOf};
 
 // Trees of one species, type and age, and their basal area in cm².
 pub struct Group {
@@ -92,46 +91,4 @@ pub fn mean_age(groups: [Group; 64], count: usize, forest: Forest) -> u64
         return age / area;
     }
     age / area + 1
-}
-
-fn comes_before(total: u64, species: u16, other_total: u64, other: u16) -> bool
-    ensures { λ r. ⌜ r ≡ comesBefore total species «other_total» other ⌝ }
-{
-    (other_total < total) | ((total == other_total) & (species < other))
-}
-
-fn lead(groups: [Group; 64], count: usize, leader: Group, g: Group) -> Group
-    ensures { λ r. ⌜ r ≡ leading (take count groups) leader g ⌝ }
-{
-    let total = species_area(groups, count, g.species);
-    let most = species_area(groups, count, leader.species);
-    if comes_before(total, g.species, most, leader.species) {
-        return g;
-    }
-    leader
-}
-
-// A group of the predominant species.
-pub fn predominant(groups: [Group; 64], count: usize) -> Group
-    ensures { λ r. ⌜ r ≡ predominantOf (take count groups) ⌝ }
-{
-    if count == 0 {
-        return Group {
-            species: 0,
-            forest: Forest::Bare,
-            age: 0,
-            basal_area: 0,
-        };
-    }
-    let mut leader = groups[0];
-    let mut i: usize = 1;
-    while i < 64 {
-        if count <= i {
-            return leader;
-        }
-        let g = groups[i];
-        leader = lead(groups, count, leader, g);
-        i += 1;
-    }
-    leader
 }

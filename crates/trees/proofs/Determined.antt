@@ -7,7 +7,6 @@ use native.Mathlib.Nat.{div-zero}
 use borrow.Author.Tests.{eq-eqb}
 use Rattle.laws.specs.Elements.{sumBy}
 use Rattle.laws.proofs.Choosing.{Best}
-use Rattle.refusals.specs.declared.Refusal.{Refusal}
 use Rattle.refusals.specs.declared.Verdict.{Verdict}
 use Rattle.refusals.specs.declared.Verdict.the-variants.{Clear, Turned as Refused}
 use Rattle.refusals.specs.Refusals.{smallest}
@@ -15,8 +14,8 @@ use Rattle.forest.specs.Order.{orderOf}
 use Rattle.forest.specs.declared.Forest.{Forest}
 use Rattle.groups.specs.declared.Group.{Group}
 use Rattle.groups.specs.Sums.{ofType, area, weightsOf, halfUp, sumOver, meanAge}
-use Rattle.groups.specs.Predominance.{predominantOf}
-use Rattle.groups.proofs.Order.{Ahead, predominant-best}
+use Rattle.predominance.specs.Predominance.{predominantOf}
+use Rattle.predominance.proofs.Order.{Ahead, predominant-best}
 use Rattle.groups.proofs.Mean.{Between, mean-between, area-positive}
 use Rattle.trees.specs.declared.Hectare.the-variants.{Of, Turned}
 use Rattle.trees.specs.Hectares.{cases, answerOf, hectareOf}
@@ -65,12 +64,8 @@ mean-at-most count (g ∷ gs) c =
     let ok = judged count (g ∷ gs) c in
     of-leader count g gs ok .between 0 300 (λ h m t. (omega arith, ok .ranges h m .age)) .1
 
--- the answer by the verdict
+-- the answer of a clear verdict
 module _ (count : ℕ) (gs : List Group) (v : Verdict) (weighed : v ≡ smallest (cases count gs)) where
-  pub when-refused : (refusal : Refusal) → v ≡ Refused refusal → Turned refusal ≡ hectareOf count gs
-  unfolding hectareOf answerOf
-  when-refused refusal e = ap (λ (w : Verdict). answerOf w gs) (sym e ∙ weighed)
-
   pub when-clear : (leader : Group) (age : ℕ) → v ≡ Clear → leader ≡ predominantOf gs → age ≡ meanAge gs (leader .forest) → Of (leader .forest) age ≡ hectareOf count gs
   unfolding hectareOf answerOf
   when-clear leader age e l a = rw (a, l) (ap (λ (w : Verdict). answerOf w gs) (sym e ∙ weighed))

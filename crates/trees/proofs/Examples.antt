@@ -10,7 +10,7 @@ use Rattle.forest.specs.declared.Forest.{Forest}
 use Rattle.forest.specs.declared.Forest.the-variants.{Radiata, ExoticSoftwoods, ExoticHardwoods, Indigenous}
 use Rattle.groups.specs.declared.Group.{Group}
 use Rattle.groups.specs.Sums.{speciesArea, weightsOf, halfUp, meanAge}
-use Rattle.groups.specs.Predominance.{leading, predominantOf}
+use Rattle.predominance.specs.Predominance.{leading, predominantOf}
 use Rattle.trees.specs.declared.Hectare.{Hectare}
 use Rattle.trees.specs.declared.Hectare.the-variants.{Of}
 use Rattle.trees.specs.Hectares.{faultsOf, cases, answerOf, hectareOf}

@@ -11,7 +11,7 @@ use Rattle.refusals.specs.Refusals.{Case, _⇒_, smallest}
 use Rattle.forest.specs.declared.Forest.the-variants.{Bare}
 use Rattle.groups.specs.declared.Group.{Group}
 use Rattle.groups.specs.Sums.{ofSpecies, ofType, meanAge}
-use Rattle.groups.specs.Predominance.{predominantOf}
+use Rattle.predominance.specs.Predominance.{predominantOf}
 use Rattle.trees.specs.declared.Faults.{Faults}
 use Rattle.trees.specs.declared.Hectare.{Hectare}
 use Rattle.trees.specs.declared.Hectare.the-variants.{Of, Turned}

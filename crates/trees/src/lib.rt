@@ -100,7 +100,7 @@ pub fn determine(groups: [Group; 64], count: usize) -> Hectare
     if let Verdict::Turned(refusal) = verdict {
         return Hectare::Turned(refusal);
     }
-    let leader = groups::predominant(groups, count);
+    let leader = predominance::predominant(groups, count);
     let forest = leader.forest;
     let age = groups::mean_age(groups, count, forest) as u16;
     Hectare::Of { forest, age }

@@ -1,12 +1,20 @@
 -- `trees::determine` meets its contract, by the verdict: a clear one leaves an age of at most 300.
+use mathlib.Core.Path.{sym, ap, _∙_}
 use native.Mathlib.Omega.{arith}
 use borrow.Author.Needs.{needs}
-use Rattle.trees.proofs.Determined.{age-at-most, when-refused, when-clear}
+use lib.ListN.{take}
+use Rattle.refusals.specs.declared.Verdict.{Verdict}
+use Rattle.trees.specs.Hectares.{answerOf, hectareOf}
+use Rattle.trees.proofs.Determined.{age-at-most, when-clear}
 use Rattle.trees.proofs.determine.Statement.{statement}
 use Rattle.trees.proofs.determine.Tie as tie
 
 returns : tie.Need-returns
-returns c = let j = c .before .before .before in when-refused _ _ _ (j .judge .ensures) _ (c .before .verdict .given .1)
+unfolding answerOf hectareOf
+returns c =
+    let j = c .before .before .before in
+    let a = j .before .args in
+    ap (λ (v : Verdict). answerOf v (take (a .count) (a .groups))) (sym (c .before .verdict .given .1) ∙ j .judge .ensures)
 
 cast-age : tie.Need-cast-age
 cast-age c =

@@ -1,6 +1,6 @@
 -- The predominant species is in the list, no other has a greater total, and none with the same total has a lower number:
 -- of two groups the leading one is ahead of both, and being ahead carries over.
-use Prim.Native.Nat.{ℕ, _≤_}
+use Prim.Native.Nat.{_≤_}
 use mathlib.Core.Bool.{Bool, true, false, cond}
 use mathlib.Core.Logic.{inl, inr}
 use mathlib.Core.Path.{_≡_, refl}
@@ -9,9 +9,9 @@ use native.Mathlib.Omega.{arith}
 use borrow.Author.Tests.{ltb-true, ltb-false}
 use lib.Dec.{ltb}
 use Rattle.laws.proofs.Choosing.{Choice, Best, chosen-best, outranks-true, outranks-false}
 use Rattle.groups.specs.declared.Group.{Group}
 use Rattle.groups.specs.Sums.{speciesArea}
-use Rattle.groups.specs.Predominance.{comesBefore, leading, predominantOf}
+use Rattle.predominance.specs.Predominance.{precedes, leading, predominantOf}
 
 -- a group's species has no smaller total than another's, and no higher number where the totals are the same
 pub record Ahead (gs : List Group) (g h : Group) : Type 0 where
@@ -30,22 +30,18 @@ module _ (gs : List Group) where
 
   leading-choice : (leader g : Group) → Choice (Ahead gs) leader g (leading gs leader g)
   unfolding leading
-  leading-choice leader g = go (comesBefore t (g .species) m (leader .species)) refl
+  leading-choice leader g = go (precedes gs g leader) refl
     where
-      abbrev t : ℕ
-      t = speciesArea gs (g .species)
-      abbrev m : ℕ
-      m = speciesArea gs (leader .species)
-      go : (b : Bool) → comesBefore t (g .species) m (leader .species) ≡ b → Choice (Ahead gs) leader g (cond b g leader)
+      go : (b : Bool) → precedes gs g leader ≡ b → Choice (Ahead gs) leader g (cond b g leader)
       go true e =
-          let o = outranks-true t m (ltb (g .species) (leader .species)) e in
+          let o = outranks-true (speciesArea gs (g .species)) (speciesArea gs (leader .species)) (ltb (g .species) (leader .species)) e in
           record {
             one = inr refl;
             over-best = record { greatest = o .0; lowest = λ z. omega (arith, ltb-true (g .species) (leader .species) (o .1 z)) };
             over-other = self-ahead g;
           }
       go false e =
-          let o = outranks-false t m (ltb (g .species) (leader .species)) e in
+          let o = outranks-false (speciesArea gs (g .species)) (speciesArea gs (leader .species)) (ltb (g .species) (leader .species)) e in
           record {
             one = inl refl;
             over-best = self-ahead leader;

@@ -5,9 +5,9 @@ use mathlib.Core.Path.{_≡_, sym, ap, _∙_}
 use mathlib.Core.List.{List, _∷_, foldl}
 use lib.ListN.{length, take, drop, getD}
 use Rattle.laws.proofs.Standing.{standing-next}
 use Rattle.groups.specs.declared.Group.{Group}
 use Rattle.groups.specs.Sums.{speciesArea}
-use Rattle.groups.specs.Predominance.{comesBefore, leading, predominantOf}
+use Rattle.predominance.specs.Predominance.{comesBefore, leading, predominantOf}
 
 -- which of two groups leads, by the totals of their species
 pub which-leads : (gs : List Group) (leader g : Group) (total most : ℕ) (t : Bool) → total ≡ speciesArea gs (g .species) → most ≡ speciesArea gs (leader .species)

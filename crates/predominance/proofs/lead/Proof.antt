@@ -1,12 +1,12 @@
--- `groups::lead` meets its contract, by whether the group's species comes before the leader's.
+-- `predominance::lead` meets its contract, by whether the group's species comes before the leader's.
 use mathlib.Core.Bool.{cond}
 use mathlib.Core.Path.{_≡_}
 use borrow.Author.Needs.{needs}
 use lib.ListN.{take}
-use Rattle.groups.specs.Predominance.{leading}
-use Rattle.groups.proofs.Leading.{which-leads}
-use Rattle.groups.proofs.lead.Statement.{statement}
-use Rattle.groups.proofs.lead.Tie as tie
+use Rattle.predominance.specs.Predominance.{leading}
+use Rattle.predominance.proofs.Leading.{which-leads}
+use Rattle.predominance.proofs.lead.Statement.{statement}
+use Rattle.predominance.proofs.lead.Tie as tie
 
 species-area-requires : tie.Need-species-area-requires
 species-area-requires c κs = search needs

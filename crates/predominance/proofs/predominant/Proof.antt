@@ -1,4 +1,4 @@
--- `groups::predominant` meets its contract: setting the groups left against the leader gives the predominant one.
+-- `predominance::predominant` meets its contract: setting the groups left against the leader gives the predominant one.
 use Prim.Native.Nat.{_<_, _-_, _≤_}
 use mathlib.Core.Path.{_≡_, refl, sym, ap}
 use mathlib.Core.List.{foldl}
@@ -7,10 +7,10 @@ use borrow.Author.Needs.{needs}
 use lib.ListN.{length, take, drop}
 use Rattle.laws.proofs.Standing.{as-long}
 use Rattle.laws.proofs.Turns.{fold-end, fold-out, fold-more}
-use Rattle.groups.specs.Predominance.{leading, predominantOf}
-use Rattle.groups.proofs.Leading.{lead-first}
-use Rattle.groups.proofs.predominant.Statement.{statement}
-use Rattle.groups.proofs.predominant.Tie as tie
+use Rattle.predominance.specs.Predominance.{leading, predominantOf}
+use Rattle.predominance.proofs.Leading.{lead-first}
+use Rattle.predominance.proofs.predominant.Statement.{statement}
+use Rattle.predominance.proofs.predominant.Tie as tie
 
 abbrev Inv-loop : tie.InvT-loop
 Inv-loop count groups leader₀ i₀ leader i = foldl (leading (take count groups)) leader (drop i (take count groups)) ≡ predominantOf (take count groups)
