@@ -1,3 +1,7 @@
+pub mod Choosing
+pub mod Elements
 pub mod Lists
 pub mod Signed
+pub mod Standing
 pub mod Stores
+pub mod Turns

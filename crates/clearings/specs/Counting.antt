@@ -1,0 +1,27 @@
+-- The trees that count for pre-1990 land (002, 4.5): those of the clearing itself from nine years on, else the oldest of the last nine years.
+use Prim.Native.Nat.{ℕ, _+_, _-_}
+use mathlib.Core.Bool.{Bool, cond}
+use mathlib.Core.List.{List, foldl}
+use lib.Dec.{leb, ltb}
+use Rattle.laws.specs.Elements.{keep, outranks}
+use Rattle.clearings.specs.declared.Clearing.{Clearing}
+
+-- "Age is cleared less planted."
+abbrev pub ageOf : Clearing → ℕ
+ageOf c = c .cleared - c .planted
+
+-- "at most nine years before its own"
+abbrev pub within : Clearing → Clearing → Bool
+within own c = leb (own .cleared) (c .cleared + 9)
+
+-- "the oldest trees ..; on a tie the later cleared"
+abbrev pub older : Clearing → Clearing → Bool
+older c best = outranks (ageOf c) (ageOf best) (ltb (best .cleared) (c .cleared))
+
+-- of two, the older; "then the parcel itself, then the first listed"
+unfoldable pub elder : Clearing → Clearing → Clearing
+elder best c = cond (older c best) c best
+
+-- "Under nine years, the oldest trees among itself and the clearings at most nine years before its own count"
+unfoldable pub countingOf : Clearing → List Clearing → Clearing
+countingOf own earlier = cond (leb 9 (ageOf own)) own (foldl elder own (keep (within own) earlier))

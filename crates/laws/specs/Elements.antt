@@ -1,0 +1,24 @@
+-- Tests, sums and choices over a whole list, by its elements.
+use Prim.Native.Nat.{ℕ, _+_}
+use mathlib.Core.Bool.{Bool, false, cond, _&&_, _||_}
+use mathlib.Core.List.{List, [], _∷_}
+use lib.Dec.{eqb, ltb}
+
+-- whether some element of a list passes a test
+unfoldable pub some : {A : Type 0} → (A → Bool) → List A → Bool
+some p [] = false
+some p (a ∷ l) = p a || some p l
+
+-- the elements that pass a test
+unfoldable pub keep : {A : Type 0} → (A → Bool) → List A → List A
+keep p [] = []
+keep p (a ∷ l) = cond (p a) (a ∷ keep p l) (keep p l)
+
+-- the sum of a measure over a list
+unfoldable pub sumBy : {A : Type 0} → (A → ℕ) → List A → ℕ
+sumBy f [] = 0
+sumBy f (a ∷ l) = f a + sumBy f l
+
+-- whether a number comes before another: it is greater, or on a tie another test decides
+abbrev pub outranks : ℕ → ℕ → Bool → Bool
+outranks a b tie = ltb b a || (eqb a b && tie)

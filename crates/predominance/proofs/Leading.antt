@@ -1,0 +1,23 @@
+-- The predominant group found in order: the first leads at first, and of a leader and a further group the totals tell which leads.
+use Prim.Native.Nat.{ℕ, _<_}
+use mathlib.Core.Bool.{Bool, cond}
+use mathlib.Core.Path.{_≡_, sym, ap, _∙_}
+use mathlib.Core.List.{List, _∷_, foldl}
+use lib.ListN.{length, take, drop, getD}
+use Rattle.laws.proofs.Standing.{standing-next}
+use Rattle.groups.specs.declared.Group.{Group}
+use Rattle.groups.specs.Sums.{speciesArea}
+use Rattle.predominance.specs.Predominance.{comesBefore, leading, predominantOf}
+
+-- which of two groups leads, by the totals of their species
+pub which-leads : (gs : List Group) (leader g : Group) (total most : ℕ) (t : Bool) → total ≡ speciesArea gs (g .species) → most ≡ speciesArea gs (leader .species)
+    → t ≡ comesBefore total (g .species) most (leader .species) → cond t g leader ≡ leading gs leader g
+unfolding leading
+which-leads gs leader g total most t e f b = rw (b, e, f)
+
+first-leads : (all : List Group) (g : Group) (rest : List Group) → all ≡ g ∷ rest → foldl (leading all) g rest ≡ predominantOf all
+unfolding predominantOf
+first-leads all g rest e = ap (λ (l : List Group). foldl (leading l) g rest) e ∙ sym (ap predominantOf e)
+
+pub lead-first : (gs : List Group) (n : ℕ) (d : Group) → 0 < n → 0 < length gs → foldl (leading (take n gs)) (getD gs 0 d) (drop 1 (take n gs)) ≡ predominantOf (take n gs)
+lead-first gs n d p q = first-leads (take n gs) (getD gs 0 d) (drop 1 (take n gs)) (standing-next gs n 0 d p q)

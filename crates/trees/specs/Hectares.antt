@@ -1,0 +1,52 @@
+-- The type and age of a hectare, or the refusal of its tree list.
+use Prim.Native.Nat.{ℕ}
+use mathlib.Core.Bool.{Bool, not, _&&_, _||_}
+use mathlib.Core.List.{List, [], _∷_}
+use lib.Dec.{eqb, ltb}
+use Rattle.laws.specs.Elements.{some}
+use Rattle.refusals.specs.declared.Refusal.the-variants.{ForestType, TreeList}
+use Rattle.refusals.specs.declared.Verdict.{Verdict}
+use Rattle.refusals.specs.declared.Verdict.the-variants.{Clear, Turned as Refused}
+use Rattle.refusals.specs.Refusals.{Case, _⇒_, smallest}
+use Rattle.forest.specs.declared.Forest.the-variants.{Bare}
+use Rattle.groups.specs.declared.Group.{Group}
+use Rattle.groups.specs.Sums.{ofSpecies, ofType, meanAge}
+use Rattle.predominance.specs.Predominance.{predominantOf}
+use Rattle.trees.specs.declared.Faults.{Faults}
+use Rattle.trees.specs.declared.Hectare.{Hectare}
+use Rattle.trees.specs.declared.Hectare.the-variants.{Of, Turned}
+
+-- "age over 300, basal area 0 or over 1000000"
+abbrev pub outOfRange : Group → Bool
+outOfRange g = ltb 300 (g .age) || eqb (g .«basal_area») 0 || ltb 1000000 (g .«basal_area»)
+
+-- a group of the same species under another type
+abbrev pub otherType : Group → Group → Bool
+otherType g h = ofSpecies (g .species) h && not (ofType (g .forest) h)
+
+unfoldable pub faultsOf : List Group → Faults
+faultsOf gs = record {
+  bare = some (ofType Bare) gs;
+  «out_of_range» = some outOfRange gs;
+  -- "one species under two types"
+  «two_types» = some (λ g. some (otherType g) gs) gs;
+}
+
+-- of the groups that are held, and the number of groups given
+unfoldable pub cases : ℕ → List Group → List Case
+cases count gs =
+    -- "3 type (B too in a .. tree ..)"
+    faultsOf gs .bare ⇒ ForestType
+    -- "7 tree list: none or over 64 groups, age over 300, basal area 0 or over 1000000, one species under two types"
+    ∷ (eqb count 0 || ltb 64 count) ⇒ TreeList
+    ∷ faultsOf gs .«out_of_range» ⇒ TreeList
+    ∷ faultsOf gs .«two_types» ⇒ TreeList
+    ∷ []
+
+-- "Its type is the hectare's": the predominant species'
+unfoldable pub answerOf : Verdict → List Group → Hectare
+answerOf (Refused refusal) gs = Turned refusal
+answerOf Clear gs = Of (predominantOf gs .forest) (meanAge gs (predominantOf gs .forest))
+
+unfoldable pub hectareOf : ℕ → List Group → Hectare
+hectareOf count gs = answerOf (smallest (cases count gs)) gs
