@@ -6,7 +6,7 @@ use Rattle.examples.proofs.residue_is.Tie as tie
 
 returns : tie.Need-returns
 unfolding residueIs
-returns c = simp (c .before .residue .ensures, c .before .before .rounded .ensures, c .before .before .before .share .ensures)
+returns c = simp (c .before .residue .ensures .0, c .before .before .rounded .ensures, c .before .before .before .share .ensures)
 
 pub residue-is-spec : {M : Type 1} → statement M
 residue-is-spec =
