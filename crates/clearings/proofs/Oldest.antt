@@ -48,4 +48,4 @@ elder-choice best c = go (older c best) refl
 
 pub counting-oldest : (own : Clearing) (earlier : List Clearing) → ageOf own < 9 → Best Ahead (own ∷ keep (within own) earlier) (countingOf own earlier)
 unfolding countingOf
-counting-oldest own earlier h = rw (lt-leb 9 (ageOf own) h) (chosen-best Ahead elder self-ahead ahead-carries elder-choice own (keep (within own) earlier))
+counting-oldest own earlier h = rw (lt-leb 9 (ageOf own) h) (chosen-best Ahead (record { self = self-ahead; carries = ahead-carries }) elder elder-choice own (keep (within own) earlier))

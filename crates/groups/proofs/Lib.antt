@@ -1,1 +1,2 @@
+pub mod HalfUp
 pub mod Mean

@@ -1,37 +1,15 @@
--- The mean age of a type lies between the least and the greatest age of its groups: so do the weighted sums, and rounding half up keeps to whole numbers.
-use Prim.Native.Nat.{ℕ, suc, _+_, _*_, _/_, _%_, _≤_, _<_}
+-- The mean age of a type lies between the least and the greatest age of its groups: the weighted sums do, and rounding half up passes no whole number.
+use Prim.Native.Nat.{ℕ, _+_, _*_, _≤_, _<_}
 use mathlib.Core.Bool.{Bool, true, false, cond}
-use mathlib.Core.Path.{_≡_, refl, sym, ap, _∙_}
+use mathlib.Core.Path.{_≡_, refl}
 use mathlib.Core.List.{List, [], _∷_, List·Memᴰ, List·Memᴰ·head, List·Memᴰ·tail}
 use native.Mathlib.Omega.{arith}
-use native.Mathlib.Nat.{zero-add, mul-comm, mul-add, add-mul, mul-left-comm, mul-le-mul-right, le-div-iff-mul-le, div-lt-iff-lt-mul, div-add-mod, mod-lt}
+use native.Mathlib.Nat.{zero-add, mul-add, mul-left-comm, mul-le-mul-right}
 use Rattle.laws.specs.Elements.{sumBy}
 use Rattle.forest.specs.declared.Forest.{Forest}
 use Rattle.groups.specs.declared.Group.{Group}
-use Rattle.groups.specs.Sums.{ofType, area, weightedAge, sumOver, weightsOf, halfUp, meanAge}
-
-module _ (n d : ℕ) (some : 0 < d) where
-  -- a number that n/d reaches is reached by the rounded quotient, and one that it does not pass is not passed
-  half-up-reaches : (m : ℕ) → m * (2 * d) ≤ 2 * n + d → m ≤ halfUp n d
-  unfolding halfUp
-  half-up-reaches m h = le-div-iff-mul-le {k = 2 * d} {x = m} {y = 2 * n + d} (omega arith) .1 h
-
-  half-up-keeps : (m : ℕ) → 2 * n + d < m * (2 * d) + 2 * d → halfUp n d ≤ m
-  unfolding halfUp
-  half-up-keeps m h =
-      let below : (2 * n + d) / (2 * d) < m + 1 = div-lt-iff-lt-mul {k = 2 * d} {x = 2 * n + d} {y = m + 1} (omega arith) .1 (omega (arith, add-mul m 1 (2 * d))) in
-      omega arith
-
-  -- half up: the one number m with m − 1/2 ≤ n/d < m + 1/2
-  pub half-up : (m : ℕ) → m * (2 * d) ≤ 2 * n + d → 2 * n + d < m * (2 * d) + 2 * d → halfUp n d ≡ m
-  half-up m low high = omega (arith, half-up-reaches m low, half-up-keeps m high)
-
-  -- "rounded up if a decimal of 0.5 or greater and down otherwise" (002, 4.5)
-  pub rounds-down : 2 * (n % d) < d → n / d ≡ halfUp n d
-  rounds-down h = sym (half-up (n / d) (omega (arith, div-add-mod n d, mul-left-comm (n / d) 2 d, mul-comm (n / d) d)) (omega (arith, div-add-mod n d, mul-left-comm (n / d) 2 d, mul-comm (n / d) d)))
-
-  pub rounds-up : d ≤ 2 * (n % d) → n / d + 1 ≡ halfUp n d
-  rounds-up h = let r : n % d < d = mod-lt n some in sym (half-up (n / d + 1) (omega (arith, div-add-mod n d, add-mul (n / d) 1 (2 * d), mul-left-comm (n / d) 2 d, mul-comm (n / d) d)) (omega (arith, div-add-mod n d, add-mul (n / d) 1 (2 * d), mul-left-comm (n / d) 2 d, mul-comm (n / d) d)))
+use Rattle.groups.specs.Sums.{ofType, area, weightedAge, sumOver, weightsOf, meanAge}
+use Rattle.groups.proofs.HalfUp.{half-up-reaches, half-up-keeps}
 
 -- every group of the type is between lo and hi years old
 abbrev pub Between : List Group → Forest → ℕ → ℕ → Type 0
@@ -50,7 +28,8 @@ module _ (forest : Forest) (lo hi : ℕ) where
       W : ℕ
       W = sumOver (ofType forest) weightedAge gs
 
-      go : (t : Bool) → ofType forest g ≡ t → (lo * A ≤ W) × (W ≤ hi * A) → (lo * (cond t (area g) 0 + A) ≤ cond t (weightedAge g) 0 + W) × (cond t (weightedAge g) 0 + W ≤ hi * (cond t (area g) 0 + A))
+      go : (t : Bool) → ofType forest g ≡ t → (lo * A ≤ W) × (W ≤ hi * A)
+          → (lo * (cond t (area g) 0 + A) ≤ cond t (weightedAge g) 0 + W) × (cond t (weightedAge g) 0 + W ≤ hi * (cond t (area g) 0 + A))
       go true e rest =
           let own = b g (List·Memᴰ·head refl) e in
           (omega (arith, mul-add lo (area g) A, mul-le-mul-right (area g) (own .0)), omega (arith, mul-add hi (area g) A, mul-le-mul-right (area g) (own .1)))

@@ -1,5 +1,5 @@
 -- The best of a list, chosen by setting each further element against the best so far: it is in the list, and ahead of every element.
--- Being ahead carries over from one to the next, and of two the one chosen is ahead of both.
+-- Of two the one chosen is ahead of both, and being ahead carries over.
 use Prim.Native.Nat.{ℕ, _≤_}
 use mathlib.Core.Bool.{Bool, true, false, _&&_, _||_}
 use mathlib.Core.Logic.{_⊎_, ⊎-elim}
@@ -20,7 +20,12 @@ pub record Best {A : Type 0} (Ahead : A → A → Type 0) (l : List A) (best : A
   pub listed : List·Memᴰ best l
   pub ahead : (a : A) → List·Memᴰ a l → Ahead best a
 
-module _ {A : Type 0} (Ahead : A → A → Type 0) (choose : A → A → A) (self : (a : A) → Ahead a a) (carries : (a b c : A) → Ahead a b → Ahead b c → Ahead a c) (choice : (best a : A) → Choice Ahead best a (choose best a)) where
+-- each is ahead of itself, and being ahead carries over
+pub record Order {A : Type 0} (Ahead : A → A → Type 0) : Type 0 where
+  pub self : (a : A) → Ahead a a
+  pub carries : (a b c : A) → Ahead a b → Ahead b c → Ahead a c
+
+module _ {A : Type 0} (Ahead : A → A → Type 0) (order : Order Ahead) (choose : A → A → A) (choice : (best a : A) → Choice Ahead best a (choose best a)) where
   one-more : (first a : A) (l : List A) (best : A) → Best Ahead (choose first a ∷ l) best → Best Ahead (first ∷ a ∷ l) best
   one-more first a l best k = record { listed = within (k .listed); ahead = over }
     where
@@ -36,14 +41,14 @@ module _ {A : Type 0} (Ahead : A → A → Type 0) (choose : A → A → A) (sel
       over-next = k .ahead next (List·Memᴰ·head refl)
 
       over : (b : A) → List·Memᴰ b (first ∷ a ∷ l) → Ahead best b
-      over b (List·Memᴰ·head e) = rw e (carries best next first over-next (choice first a .over-best))
-      over b (List·Memᴰ·tail (List·Memᴰ·head e)) = rw e (carries best next a over-next (choice first a .over-other))
+      over b (List·Memᴰ·head e) = rw e (order .carries best next first over-next (choice first a .over-best))
+      over b (List·Memᴰ·tail (List·Memᴰ·head e)) = rw e (order .carries best next a over-next (choice first a .over-other))
       over b (List·Memᴰ·tail (List·Memᴰ·tail m)) = k .ahead b (List·Memᴰ·tail m)
 
   pub chosen-best : (first : A) (l : List A) → Best Ahead (first ∷ l) (foldl choose first l)
   chosen-best first [] = record {
     listed = List·Memᴰ·head refl;
-    ahead = λ a m. ⊎-elim (λ (e : a ≡ first). rw e (self first)) (λ (n : List·Memᴰ a []). absurd (List·Memᴰ·not-nil n)) (List·Memᴰ·cases-cons m);
+    ahead = λ a m. ⊎-elim (λ (e : a ≡ first). rw e (order .self first)) (λ (n : List·Memᴰ a []). absurd (List·Memᴰ·not-nil n)) (List·Memᴰ·cases-cons m);
   }
   chosen-best first (a ∷ l) = one-more first a l (foldl choose first (a ∷ l)) (chosen-best (choose first a) l)
 

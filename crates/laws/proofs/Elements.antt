@@ -1,9 +1,7 @@
 -- Tests over a whole list: where none passes, no element does; and what is kept is what passes.
-use Prim.Native.Nat.{ℕ}
 use mathlib.Core.Bool.{Bool, true, false, cond, _||_}
 use mathlib.Core.Path.{_≡_, refl, ap, _∙_}
 use mathlib.Core.List.{List, [], _∷_, foldl, List·Memᴰ, List·Memᴰ·head, List·Memᴰ·tail}
-use native.Mathlib.Omega.{arith}
 use Rattle.laws.specs.Elements.{some, keep}
 
 pub or-false-left : (a b : Bool) → (a || b) ≡ false → a ≡ false

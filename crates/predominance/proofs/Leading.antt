@@ -1,19 +1,11 @@
--- The predominant group found in order: the first leads at first, and of a leader and a further group the totals tell which leads.
+-- The predominant group found in order: the first group leads at first.
 use Prim.Native.Nat.{ℕ, _<_}
-use mathlib.Core.Bool.{Bool, cond}
 use mathlib.Core.Path.{_≡_, sym, ap, _∙_}
 use mathlib.Core.List.{List, _∷_, foldl}
 use lib.ListN.{length, take, drop, getD}
 use Rattle.laws.proofs.Standing.{standing-next}
 use Rattle.groups.specs.declared.Group.{Group}
-use Rattle.groups.specs.Sums.{speciesArea}
-use Rattle.predominance.specs.Predominance.{comesBefore, leading, predominantOf}
-
--- which of two groups leads, by the totals of their species
-pub which-leads : (gs : List Group) (leader g : Group) (total most : ℕ) (t : Bool) → total ≡ speciesArea gs (g .species) → most ≡ speciesArea gs (leader .species)
-    → t ≡ comesBefore total (g .species) most (leader .species) → cond t g leader ≡ leading gs leader g
-unfolding leading
-which-leads gs leader g total most t e f b = rw (b, e, f)
+use Rattle.predominance.specs.Predominance.{leading, predominantOf}
 
 first-leads : (all : List Group) (g : Group) (rest : List Group) → all ≡ g ∷ rest → foldl (leading all) g rest ≡ predominantOf all
 unfolding predominantOf

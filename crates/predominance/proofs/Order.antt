@@ -50,4 +50,4 @@ module _ (gs : List Group) where
 
 pub predominant-best : (g : Group) (gs : List Group) → Best (Ahead (g ∷ gs)) (g ∷ gs) (predominantOf (g ∷ gs))
 unfolding predominantOf
-predominant-best g gs = let all = g ∷ gs in chosen-best (Ahead all) (leading all) (self-ahead all) (ahead-carries all) (leading-choice all) g gs
+predominant-best g gs = let all = g ∷ gs in chosen-best (Ahead all) (record { self = self-ahead all; carries = ahead-carries all }) (leading all) (leading-choice all) g gs

@@ -17,7 +17,7 @@ use Rattle.groups.specs.Sums.{ofType, area, weightsOf, halfUp, sumOver, meanAge
 use Rattle.predominance.specs.Predominance.{predominantOf}
 use Rattle.predominance.proofs.Order.{Ahead, predominant-best}
 use Rattle.groups.proofs.Mean.{Between, mean-between, area-positive}
-use Rattle.trees.specs.declared.Hectare.the-variants.{Of, Turned}
+use Rattle.trees.specs.declared.Hectare.the-variants.{Of}
 use Rattle.trees.specs.Hectares.{cases, answerOf, hectareOf}
 use Rattle.trees.proofs.Judged.{Judged, judged}
 

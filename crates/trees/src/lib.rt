@@ -7,7 +7,6 @@ ghost use mathlib.Core.Path.{_≡_};
 ghost use lib.ListN.{take};
 ghost use Rattle.laws.specs.Elements.{some};
 ghost use Rattle.refusals.specs.Refusals.{smallest};
-ghost use Rattle.groups.specs.Sums.{ofType};
 ghost use Rattle.trees.specs.Hectares.{outOfRange, otherType, faultsOf, cases, hectareOf};
 
 pub enum Hectare {

@@ -5,7 +5,7 @@ use mathlib.Core.Path.{_≡_, refl, ap}
 use mathlib.Core.List.{List}
 use native.Mathlib.Omega.{arith}
 use borrow.Author.Needs.{needs}
-use lib.ListN.{length, take, drop, getD}
+use lib.ListN.{length, take, drop}
 use Rattle.laws.specs.Elements.{some}
 use Rattle.laws.proofs.Standing.{as-long}
 use Rattle.laws.proofs.Turns.{some-end, some-out, some-more}

@@ -1,6 +1,6 @@
 -- `deforestation::kilograms` meets its contract: it is the product of what its calls give, whose factors are bounded by their widths.
 use Prim.Native.Nat.{ℕ, _*_, _≤_}
-use mathlib.Core.Path.{_≡_, ap, _∙_}
+use mathlib.Core.Path.{ap}
 use native.Mathlib.Omega.{arith}
 use native.Mathlib.Nat.{mul-le-mul}
 use borrow.Author.Needs.{needs}

@@ -1,24 +1,19 @@
 -- `groups::mean_age` meets its contract: the quotient of the weights, and one more from a rest of one half on.
-use mathlib.Core.Path.{_≡_, _∙_}
+use mathlib.Core.Path.{_∙_}
 use native.Mathlib.Omega.{arith}
 use native.Mathlib.Nat.{div-zero, div-le-self, mod-le}
 use borrow.Author.Needs.{needs}
-use lib.ListN.{take}
 use Rattle.groups.specs.Sums.{halfUp, meanAge}
-use Rattle.groups.proofs.Mean.{rounds-down, rounds-up}
+use Rattle.groups.proofs.HalfUp.{rounds-down, rounds-up}
 use Rattle.groups.proofs.mean_age.Statement.{statement}
 use Rattle.groups.proofs.mean_age.Tie as tie
-
-mean : (c : tie.After-type-weights) → halfUp (c .type-weights .result .age) (c .type-weights .result .area) ≡ meanAge (take (c .before .args .count) (c .before .args .groups)) (c .before .args .forest)
-unfolding meanAge
-mean c = simp (← (c .type-weights .ensures .0))
 
 type-weights-requires : tie.Need-type-weights-requires
 type-weights-requires c κs = search needs
 
 returns : tie.Need-returns
-unfolding halfUp
-returns c = simp (c .if1 .taken, div-zero) at (mean (c .before))
+unfolding halfUp meanAge
+returns c = simp (← (c .before .type-weights .ensures .0), c .if1 .taken, div-zero)
 
 rem-if2 : tie.Need-rem-if2
 rem-if2 c = search needs
@@ -30,7 +25,8 @@ div-result : tie.Need-div-result
 div-result c = search needs
 
 returns-2 : tie.Need-returns-2
-returns-2 c = rounds-down _ _ (omega arith) (c .if2 .taken) ∙ mean (c .before .before)
+unfolding meanAge
+returns-2 c = rounds-down _ _ (omega arith) (c .if2 .taken) ∙ simp (← (c .before .before .type-weights .ensures .0))
 
 div-result-2 : tie.Need-div-result-2
 div-result-2 c = search needs
@@ -39,7 +35,8 @@ add-result : tie.Need-add-result
 add-result c = let w = c .before .before .type-weights .result in omega (arith, div-le-self (w .age) (w .area))
 
 returns-3 : tie.Need-returns-3
-returns-3 c = rounds-up _ _ (omega arith) (c .if2 .left) ∙ mean (c .before .before)
+unfolding meanAge
+returns-3 c = rounds-up _ _ (omega arith) (c .if2 .left) ∙ simp (← (c .before .before .type-weights .ensures .0))
 
 pub mean-age-spec : {M : Type 1} → statement M
 mean-age-spec =

@@ -1,7 +1,5 @@
 -- `groups::weighted_if` meets its contract: an age of 16 bits times a basal area of 32 bits fits.
 use Prim.Native.Nat.{_*_, _≤_}
-use mathlib.Core.Bool.{cond}
-use mathlib.Core.Path.{sym, ap}
 use native.Mathlib.Omega.{arith}
 use native.Mathlib.Nat.{mul-le-mul}
 use borrow.Author.Needs.{needs}

@@ -1,6 +1,6 @@
 -- `predominance::predominant` meets its contract: setting the groups left against the leader gives the predominant one.
-use Prim.Native.Nat.{_<_, _-_, _≤_}
-use mathlib.Core.Path.{_≡_, refl, sym, ap}
+use Prim.Native.Nat.{_-_}
+use mathlib.Core.Path.{_≡_}
 use mathlib.Core.List.{foldl}
 use native.Mathlib.Omega.{arith}
 use borrow.Author.Needs.{needs}
