@@ -2,7 +2,7 @@
 use Prim.Native.Nat.{ℕ}
 use mathlib.Core.Bool.{false}
 use mathlib.Core.List.{List}
-use lib.ListN.{take, getD, replicate}
+use lib.ListN.{take, replicate}
 use Rattle.forest.specs.declared.Forest.the-variants.{Bare}
 use Rattle.holding.specs.declared.Residue.{Residue}
 use Rattle.holding.specs.declared.Sub.{Sub}

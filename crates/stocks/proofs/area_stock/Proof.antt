@@ -1,6 +1,6 @@
 -- `stocks::area_stock` meets its contract. The loop's invariant: the sum so far and the stocks of the sub-areas left make the whole.
 use Prim.Native.Nat.{ℕ, _+_, _-_, _*_, _≤_}
-use mathlib.Core.Path.{_≡_, refl, ap, _∙_}
+use mathlib.Core.Path.{_≡_, ap}
 use native.Mathlib.Omega.{arith}
 use native.Mathlib.Nat.{zero-add}
 use lib.ListN.{length, take, drop}
