@@ -14,6 +14,7 @@ use Rattle.laws.proofs.Order.{below-or-not}
 use Rattle.laws.proofs.Stores.{getD-sets}
 use Rattle.text.specs.Fields.{width, split, fieldAt}
 use Rattle.text.proofs.Fields.{field-last, field-comma, split-some}
+use Rattle.fields.specs.declared.Places.{Places}
 use Rattle.fields.specs.Places.{startsFrom, placesOf, between, part}
 
 -- ---- a part of a line, by the tests on its ends
@@ -146,3 +147,12 @@ module _ (s : List ℕ) where
       let e : getD (startsFrom 0 (split s)) (suc k) 0 ≡ 0 = List·getD-eq-default (startsFrom 0 (split s)) 0 (omega (arith, starts-length 0 (split s))) in
       sym (out-of-order _ _ s (omega arith)) ∙ sym (List·getD-eq-default (split s) [] past))
       (below-or-not k (length (split s))))
+
+-- the same of places that a scan found
+module _ (s : List ℕ) (places : Places) (scanned : places ≡ placesOf (split s)) where
+  pub count-found : places .count ≡ length (split s)
+  unfolding placesOf
+  count-found = ap (λ (p : Places). p .count) scanned
+
+  pub field-found : (k : ℕ) → k < 6 → part s places k ≡ fieldAt (split s) k
+  field-found k h = ap (λ (p : Places). part s p k) scanned ∙ field-stands s k h

@@ -1,6 +1,6 @@
 -- "1 wrong .. form (a well-formed value out of range has its own number)".
 use Prim.Native.Nat.{ℕ}
-use mathlib.Core.Bool.{Bool, true, false, _||_}
+use mathlib.Core.Bool.{Bool, true, false, cond, _||_}
 use lib.Dec.{ltb}
 use Rattle.numbers.specs.declared.Number.{Number}
 use Rattle.numbers.specs.declared.Number.the-variants.{Value, Large, Malformed}
@@ -21,3 +21,7 @@ abbrev pub valueOf : Number → ℕ
 valueOf (Value n) = n
 valueOf Large = 0
 valueOf Malformed = 0
+
+-- the value up to a greatest one, 0 above it
+unfoldable pub fitted : ℕ → Number → ℕ
+fitted greatest n = cond (outside 0 greatest n) 0 (valueOf n)

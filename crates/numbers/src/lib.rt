@@ -1,7 +1,7 @@
 // Whole numbers of any length, read from bytes.
 ghost use mathlib.Core.Path.{_≡_};
 ghost use Rattle.numbers.specs.Numbers.{append, more, numberIn};
-ghost use Rattle.numbers.specs.Ranges.{malformed, outside, valueOf};
+ghost use Rattle.numbers.specs.Ranges.{malformed, outside, valueOf, fitted};
 
 // What bytes stand for; a number of more than fifteen digits has no value here.
 pub enum Number {
@@ -93,4 +93,32 @@ pub fn value(number: Number) -> u64
         Number::Large => 0,
         Number::Malformed => 0,
     }
+}
+
+// The value in fewer bits, 0 where it does not fit.
+pub fn value_u32(number: Number) -> u32
+    ensures { λ r. ⌜ r ≡ fitted 4294967295 number ⌝ }
+{
+    if is_outside(number, 0, 4294967295) {
+        return 0;
+    }
+    value(number) as u32
+}
+
+pub fn value_u16(number: Number) -> u16
+    ensures { λ r. ⌜ r ≡ fitted 65535 number ⌝ }
+{
+    if is_outside(number, 0, 65535) {
+        return 0;
+    }
+    value(number) as u16
+}
+
+pub fn value_u8(number: Number) -> u8
+    ensures { λ r. ⌜ r ≡ fitted 255 number ⌝ }
+{
+    if is_outside(number, 0, 255) {
+        return 0;
+    }
+    value(number) as u8
 }
