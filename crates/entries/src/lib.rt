@@ -65,6 +65,7 @@ const LAST_SUB: u64 = 99;
 const FIRST_YEAR: u64 = 2008;
 
 const LAST_YEAR: u64 = 2199;
+
 const FIRST_PLANTED: u64 = 1900;
 
 // The number in the field at a place.

@@ -84,6 +84,9 @@ width-le (b ∷ s) = go (eqb b 44) (width-le s)
     go true h = omega arith
     go false h = omega arith
 
+pub end-inside : (s : List ℕ) (start : ℕ) → start ≤ length s → start + width (drop start s) ≤ length s
+end-inside s start h = omega (arith, width-le (drop start s), length-drop start s)
+
 -- from any start on, a field reaches from its start to one byte before the next
 module _ (s : List ℕ) where
   abbrev Reaches : List ℕ → List (List ℕ) → ℕ → Type 0
@@ -97,7 +100,7 @@ module _ (s : List ℕ) where
     end = start + width (drop start s)
 
     inside : end ≤ length s
-    inside = omega (arith, width-le (drop start s), length-drop start s)
+    inside = end-inside s start h
 
     here : between start (end + 1) s ≡ take (end - start) (drop start s)
     here =
@@ -129,6 +132,25 @@ module _ (s : List ℕ) where
   stands zero start h b = first-or-later start h zero (λ j e. absurd (omega arith)) b
   stands (suc k) start h b = first-or-later start h (suc k) (λ j e. let q : k ≡ j = omega arith in rw (sym q) (stands k (start + width (drop start s) + 1))) b
 
+  -- and the fields from a field's start on are the rest
+  abbrev Follows : ℕ → ℕ → Type 0
+  Follows start k =
+      let here = getD (startsFrom start (split (drop start s))) k 0 in
+      start ≤ length s → k < length (split (drop start s)) → (here ≤ length s) × (split (drop here s) ≡ drop k (split (drop start s)))
+
+  follows-later : (start k : ℕ) → Follows (start + width (drop start s) + 1) k → Follows start (suc k)
+  follows-later start k later h b =
+      ⊎-elim
+      (λ more.
+      rw (starts-next s start (end start h) refl h (inside start h) more, field-comma s start (end start h) refl h more)
+      (later (omega arith) (omega (arith, count-next s start (end start h) refl h (inside start h) more))))
+      (λ last. absurd (omega (arith, count-last s start (end start h) refl h (inside start h) last)))
+      (below-or-not (end start h) (length s))
+
+  follows : (k start : ℕ) → Follows start k
+  follows zero start h b = rw (head-start start (split (drop start s))) (h, refl)
+  follows (suc k) start h b = follows-later start k (follows k (start + width (drop start s) + 1)) h b
+
   -- what is noted of the starts
   noted : (j : ℕ) → j < 7 → getD (sets (replicate 7 0) 0 (startsFrom 0 (split s))) j 0 ≡ getD (startsFrom 0 (split s)) j 0
   noted j h =
@@ -156,3 +178,10 @@ module _ (s : List ℕ) (places : Places) (scanned : places ≡ placesOf (split 
 
   pub field-found : (k : ℕ) → k < 6 → part s places k ≡ fieldAt (split s) k
   field-found k h = ap (λ (p : Places). part s p k) scanned ∙ field-stands s k h
+
+  -- where a field starts, and that the fields from there on are the rest
+  pub start-found : (k : ℕ) → k < 7 → k < length (split s) → (getD (places .starts) k 0 ≤ length s) × (split (drop (getD (places .starts) k 0) s) ≡ drop k (split s))
+  unfolding placesOf
+  start-found k h b =
+      let e : getD (places .starts) k 0 ≡ getD (startsFrom 0 (split s)) k 0 = ap (λ (p : Places). getD (p .starts) k 0) scanned ∙ noted s k h in
+      rw e (follows s k 0 (omega arith) b)

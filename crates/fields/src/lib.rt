@@ -1,7 +1,8 @@
 // Where the fields of a line stand, found in one scan, and a field as a part of its line.
 ghost use mathlib.Core.Path.{_≡_};
-ghost use lib.ListN.{set};
-ghost use Rattle.text.specs.Fields.{split};
+ghost use Prim.Native.Nat.{_+_};
+ghost use lib.ListN.{set, drop};
+ghost use Rattle.text.specs.Fields.{split, width};
 ghost use Rattle.fields.specs.Places.{placesOf, part};
 
 // How many fields there are, and where each of the first six starts and the one behind it does.
@@ -66,4 +67,18 @@ pub fn field(line: &[u8], places: Places, k: usize) -> &[u8]
         return &line[0..0];
     }
     &line[start..next - 1]
+}
+
+// Where the field that starts at a place ends.
+pub fn end_of(line: &[u8], start: usize) -> usize
+    ensures { λ r. ⌜ r ≡ start + width (drop start (now (line .entry))) ⌝ }
+{
+    let mut i = start;
+    while i < line.len() {
+        if line[i] == 44 {
+            return i;
+        }
+        i += 1;
+    }
+    i
 }

@@ -9,6 +9,7 @@ use refusals::Verdict;
 
 // Ten-thousandths of a hectare.
 const LEAST_HECTARES: u64 = 10000;
+
 const MOST_HECTARES: u64 = 100000000;
 
 // S,area,sub,hectares,type,planted

@@ -11,7 +11,7 @@ unfolding openRule
 open-entry-spec =
     tie.close
     (tie.spec
-    (λ c κs. search needs)
+    (λ c κs. tt)
     (λ c. search needs)
     (λ c. search needs)
     (λ c. year-turned _ _ (c .before .before .before .area-and-year .ensures) _ _ (c .before .v .given .1))

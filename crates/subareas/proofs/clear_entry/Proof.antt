@@ -17,9 +17,19 @@ verdict w =
     let form = w .before .before .before in
     let r = form .before .before .before .before in
     let scanned = r .before .before .before .scan .ensures in
-    simp (w .weigh-year .ensures, w .before .weigh-sub .ensures, w .before .before .weigh-area .ensures, form .weigh-form3 .ensures, form .before .weigh-form2 .ensures,
-    form .before .before .weigh-form .ensures, form .before .before .before .weigh .ensures, count-found _ _ scanned, number-found _ _ 1 _ scanned (lit< tt) (r .before .before .number-at .ensures),
-    number-found _ _ 2 _ scanned (lit< tt) (r .before .number-at2 .ensures), number-found _ _ 3 _ scanned (lit< tt) (r .number-at3 .ensures))
+    simp (
+      w .weigh-year .ensures,
+      w .before .weigh-sub .ensures,
+      w .before .before .weigh-area .ensures,
+      form .weigh-form3 .ensures,
+      form .before .weigh-form2 .ensures,
+      form .before .before .weigh-form .ensures,
+      form .before .before .before .weigh .ensures,
+      count-found _ _ scanned,
+      number-found _ _ 1 _ scanned (lit< tt) (r .before .before .number-at .ensures),
+      number-found _ _ 2 _ scanned (lit< tt) (r .before .number-at2 .ensures),
+      number-found _ _ 3 _ scanned (lit< tt) (r .number-at3 .ensures),
+    )
 
 returns : tie.Need-returns
 unfolding clearRule
@@ -43,21 +53,21 @@ pub clear-entry-spec : {M : Type 1} → statement M
 clear-entry-spec =
     tie.close
     (tie.spec
-    (λ c κs. search needs)
-    (λ c κs. search needs)
-    (λ c κs. search needs)
-    (λ c κs. search needs)
-    (λ c κs. search needs)
-    (λ c κs. search needs)
-    (λ c κs. search needs)
-    (λ c κs. search needs)
-    (λ c κs. search needs)
-    (λ c κs. search needs)
-    (λ c κs. search needs)
+    (λ c κs. tt)
+    (λ c κs. tt)
+    (λ c κs. tt)
+    (λ c κs. tt)
+    (λ c κs. tt)
+    (λ c κs. tt)
+    (λ c κs. tt)
+    (λ c κs. tt)
+    (λ c κs. tt)
+    (λ c κs. tt)
+    (λ c κs. tt)
     (λ c. search needs)
     (λ c. search needs)
-    (λ c κs. search needs)
-    (λ c κs. search needs)
-    (λ c κs. search needs)
+    (λ c κs. tt)
+    (λ c κs. tt)
+    (λ c κs. tt)
     returns
     returns-2)

@@ -18,10 +18,22 @@ verdict w =
     let form = w .before .before .before .before .before in
     let r = form .before .before .before .before in
     let scanned = r .before .before .before .before .before .scan .ensures in
-    simp (w .weigh-year .ensures, w .before .weigh2 .ensures, w .before .before .is-unplantable .ensures, w .before .before .before .weigh-sub .ensures, w .before .before .before .before .weigh-area .ensures,
-    form .weigh-form3 .ensures, form .before .weigh-form2 .ensures, form .before .before .weigh-form .ensures, form .before .before .before .weigh .ensures, count-found _ _ scanned,
-    number-found _ _ 1 _ scanned (lit< tt) (r .before .before .before .before .number-at .ensures), number-found _ _ 2 _ scanned (lit< tt) (r .before .before .before .number-at2 .ensures),
-    found named _ _ 3 _ scanned (lit< tt) (r .before .read .ensures ∙ ap named (r .before .before .field .ensures)), number-found _ _ 4 _ scanned (lit< tt) (r .number-at3 .ensures))
+    simp (
+      w .weigh-year .ensures,
+      w .before .weigh2 .ensures,
+      w .before .before .is-unplantable .ensures,
+      w .before .before .before .weigh-sub .ensures,
+      w .before .before .before .before .weigh-area .ensures,
+      form .weigh-form3 .ensures,
+      form .before .weigh-form2 .ensures,
+      form .before .before .weigh-form .ensures,
+      form .before .before .before .weigh .ensures,
+      count-found _ _ scanned,
+      number-found _ _ 1 _ scanned (lit< tt) (r .before .before .before .before .number-at .ensures),
+      number-found _ _ 2 _ scanned (lit< tt) (r .before .before .before .number-at2 .ensures),
+      found named _ _ 3 _ scanned (lit< tt) (r .before .read .ensures ∙ ap named (r .before .before .field .ensures)),
+      number-found _ _ 4 _ scanned (lit< tt) (r .number-at3 .ensures),
+    )
 
 returns : tie.Need-returns
 unfolding plantRule
@@ -46,26 +58,26 @@ pub plant-entry-spec : {M : Type 1} → statement M
 plant-entry-spec =
     tie.close
     (tie.spec
-    (λ c κs. search needs)
-    (λ c κs. search needs)
-    (λ c κs. search needs)
-    (λ c κs. search needs)
-    (λ c κs. search needs)
-    (λ c κs. search needs)
-    (λ c κs. search needs)
-    (λ c κs. search needs)
-    (λ c κs. search needs)
-    (λ c κs. search needs)
-    (λ c κs. search needs)
-    (λ c κs. search needs)
-    (λ c κs. search needs)
-    (λ c κs. search needs)
-    (λ c κs. search needs)
+    (λ c κs. tt)
+    (λ c κs. tt)
+    (λ c κs. tt)
+    (λ c κs. tt)
+    (λ c κs. tt)
+    (λ c κs. tt)
+    (λ c κs. tt)
+    (λ c κs. tt)
+    (λ c κs. tt)
+    (λ c κs. tt)
+    (λ c κs. tt)
+    (λ c κs. tt)
+    (λ c κs. tt)
+    (λ c κs. tt)
+    (λ c κs. tt)
     (λ c. search needs)
     (λ c. search needs)
-    (λ c κs. search needs)
-    (λ c κs. search needs)
-    (λ c κs. search needs)
-    (λ c κs. search needs)
+    (λ c κs. tt)
+    (λ c κs. tt)
+    (λ c κs. tt)
+    (λ c κs. tt)
     returns
     returns-2)
