@@ -21,7 +21,7 @@ unfoldable pub Rising : ℕ → List Case → Type 0
 Rising n [] = Unit
 Rising n (c ∷ cs) = (n ≤ numberOf (c .refusal)) × Rising (numberOf (c .refusal)) cs
 
-turned-stands : (r : Refusal) (cs : List Case) → weighAll (Turned r) cs ≡ Turned r
+pub turned-stands : (r : Refusal) (cs : List Case) → weighAll (Turned r) cs ≡ Turned r
 unfolding weighAll weighed
 turned-stands r [] = refl
 turned-stands r (c ∷ cs) = turned-stands r cs
