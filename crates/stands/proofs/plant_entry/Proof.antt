@@ -1,4 +1,4 @@
--- `subareas::plant_entry` meets its contract: the verdict, case by case, is the rule's, and a clear one bounds the numbers.
+-- `stands::plant_entry` meets its contract: the verdict, case by case, is the rule's, and a clear one bounds the numbers.
 use mathlib.Core.Path.{_≡_, sym, ap, _∙_}
 use borrow.Author.Needs.{needs}
 use lib.Dec.{lit<, lit≤}
@@ -9,8 +9,8 @@ use Rattle.refusals.specs.Refusals.{weighAll, smallest}
 use Rattle.refusals.proofs.Laws.{NoneApplies, none-applies}
 use Rattle.entries.specs.Rules.{plantRule}
 use Rattle.entries.proofs.Laws.{turned, taken, found, number-found, value-found}
-use Rattle.subareas.proofs.plant_entry.Statement.{statement}
-use Rattle.subareas.proofs.plant_entry.Tie as tie
+use Rattle.stands.proofs.plant_entry.Statement.{statement}
+use Rattle.stands.proofs.plant_entry.Tie as tie
 
 verdict : (w : tie.After-weigh-year) → w .weigh-year .result ≡ smallest (plantRule (split (w .before .before .before .before .before .before .before .before .before .before .before .before .before .before .before .before .args .line .now)) .cases)
 unfolding plantRule smallest weighAll

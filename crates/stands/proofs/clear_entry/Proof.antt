@@ -1,4 +1,4 @@
--- `subareas::clear_entry` meets its contract: the verdict, case by case, is the rule's, and a clear one bounds the numbers.
+-- `stands::clear_entry` meets its contract: the verdict, case by case, is the rule's, and a clear one bounds the numbers.
 use mathlib.Core.Path.{_≡_, sym, _∙_}
 use borrow.Author.Needs.{needs}
 use lib.Dec.{lit<, lit≤}
@@ -8,8 +8,8 @@ use Rattle.refusals.specs.Refusals.{weighAll, smallest}
 use Rattle.refusals.proofs.Laws.{NoneApplies, none-applies}
 use Rattle.entries.specs.Rules.{clearRule}
 use Rattle.entries.proofs.Laws.{turned, taken, number-found, value-found}
-use Rattle.subareas.proofs.clear_entry.Statement.{statement}
-use Rattle.subareas.proofs.clear_entry.Tie as tie
+use Rattle.stands.proofs.clear_entry.Statement.{statement}
+use Rattle.stands.proofs.clear_entry.Tie as tie
 
 verdict : (w : tie.After-weigh-year) → w .weigh-year .result ≡ smallest (clearRule (split (w .before .before .before .before .before .before .before .before .before .before .before .before .args .line .now)) .cases)
 unfolding clearRule smallest weighAll
