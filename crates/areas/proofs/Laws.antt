@@ -5,7 +5,6 @@ use mathlib.Core.List.{List}
 use lib.Dec.{lit≤}
 use Rattle.numbers.specs.Ranges.{valueOf}
 use Rattle.refusals.specs.declared.Refusal.{Refusal}
-use Rattle.refusals.specs.declared.Verdict.{Verdict}
 use Rattle.refusals.specs.declared.Verdict.the-variants.{Clear, Turned as TurnedBy}
 use Rattle.refusals.specs.Refusals.{smallest}
 use Rattle.refusals.proofs.Laws.{NoneApplies, none-applies}

@@ -13,7 +13,7 @@ use lib.Seq.{sets}
 use Rattle.laws.proofs.Order.{below-or-not}
 use Rattle.laws.proofs.Stores.{getD-sets}
 use Rattle.text.specs.Fields.{width, split, fieldAt}
-use Rattle.text.proofs.Fields.{field-last, field-comma, split-some}
+use Rattle.text.proofs.Fields.{field-last, field-comma}
 use Rattle.fields.specs.declared.Places.{Places}
 use Rattle.fields.specs.Places.{startsFrom, placesOf, between, part}
 

@@ -73,12 +73,12 @@ pub fn field(line: &[u8], places: Places, k: usize) -> &[u8]
 pub fn end_of(line: &[u8], start: usize) -> usize
     ensures { λ r. ⌜ r ≡ start + width (drop start (now (line .entry))) ⌝ }
 {
-    let mut i = start;
-    while i < line.len() {
-        if line[i] == 44 {
-            return i;
+    let mut end = start;
+    while end < line.len() {
+        if line[end] == 44 {
+            return end;
         }
-        i += 1;
+        end += 1;
     }
-    i
+    end
 }

@@ -9,7 +9,7 @@ use Rattle.text.specs.Fields.{split}
 use Rattle.refusals.specs.declared.Refusal.{Refusal}
 use Rattle.refusals.specs.declared.Verdict.{Verdict}
 use Rattle.refusals.specs.declared.Verdict.the-variants.{Clear, Turned as TurnedBy}
-use Rattle.refusals.specs.Refusals.{numberOf, smallest}
+use Rattle.refusals.specs.Refusals.{numberOf}
 use Rattle.refusals.proofs.Smallest.{Least, Rising, rises, rising, first-is-smallest}
 use Rattle.entries.specs.declared.Entry.{Entry}
 use Rattle.entries.specs.declared.Parsed.the-variants.{Turned}

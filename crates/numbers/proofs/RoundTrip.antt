@@ -5,9 +5,8 @@ use mathlib.Core.Bool.{Bool, true, false, cond, not, _&&_}
 use mathlib.Core.List.{List, [], _∷_, _++_, append-assoc, append-nil}
 use mathlib.Core.Logic.{⊎-elim}
 use native.Mathlib.Omega.{arith}
-use borrow.Author.Tests.{lt-ltb, le-ltb, ltb-true, leb-true, eqb-false}
+use borrow.Author.Tests.{lt-ltb, le-ltb, leb-true, eqb-false}
 use lib.Dec.{ltb, leb, eqb}
-use lib.ListN.{length}
 use Rattle.laws.proofs.Order.{below-or-not}
 use Rattle.text.specs.Digits.{digits}
 use Rattle.text.proofs.Digits.{digits-small, digits-step, digits-snoc, digits-ind, digits-some, digits-head, length-digits-small, length-digits-step}

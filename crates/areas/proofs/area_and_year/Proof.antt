@@ -1,8 +1,5 @@
 -- `areas::area_and_year` meets its contract: the verdict, case by case, is that of the table.
-use mathlib.Core.Path.{_≡_, ap, _∙_}
-use borrow.Author.Needs.{needs}
 use lib.Dec.{lit<}
-use Rattle.numbers.specs.Ranges.{fitted}
 use Rattle.fields.proofs.Laws.{count-found}
 use Rattle.refusals.specs.Refusals.{weighAll, smallest}
 use Rattle.entries.specs.Rules.{areaAndYear}

@@ -1,5 +1,5 @@
 -- `columns::all_cells` meets its contract: the fields from the fourth one's start on are the cells, where there is a fourth.
-use mathlib.Core.Path.{_≡_, ap, _∙_}
+use mathlib.Core.Path.{ap, _∙_}
 use native.Mathlib.Omega.{arith}
 use borrow.Author.Needs.{needs}
 use lib.Dec.{lit<}

@@ -1,5 +1,4 @@
 -- `columns::column_entry` meets its contract: the verdict, case by case, is the rule's, and the column's place is small.
-use Prim.Native.Nat.{_≤_}
 use mathlib.Core.Path.{_≡_, ap, _∙_}
 use native.Mathlib.Omega.{arith}
 use borrow.Author.Needs.{needs}

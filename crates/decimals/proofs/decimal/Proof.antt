@@ -1,5 +1,5 @@
 -- `decimals::decimal` meets its contract, by what follows the whole number.
-use mathlib.Core.Path.{ap, _∙_}
+use mathlib.Core.Path.{_∙_}
 use native.Mathlib.Omega.{arith}
 use borrow.Author.Needs.{needs}
 use Rattle.decimals.proofs.Laws.{wholes-le, none-behind, bare-point, too-many, with-decimals}
