@@ -1,6 +1,7 @@
 pub mod Choosing
 pub mod Elements
 pub mod Lists
+pub mod Order
 pub mod Signed
 pub mod Standing
 pub mod Stores

@@ -1,12 +1,12 @@
--- Stores of a whole list, element by element: the list to come after a store is the list to come before it.
-use Prim.Native.Nat.{ℕ, suc, _+_, _<_, _≤_}
-use mathlib.Core.Path.{_≡_, sym, ap, _∙_}
-use mathlib.Core.List.{List, _++_}
+-- Runs of stores into a list: what is left to store after a store, runs that join, a run past the end, and what stands then.
+use Prim.Native.Nat.{ℕ, zero, suc, _+_, _<_, _≤_}
+use mathlib.Core.Path.{_≡_, refl, sym, ap, _∙_}
+use mathlib.Core.List.{List, [], _∷_, _++_}
 use native.Mathlib.Numerals.{add-one}
-use native.Mathlib.Nat.{zero-add}
+use native.Mathlib.Nat.{zero-add, add-zero, add-suc, suc-add}
 use native.Mathlib.Omega.{arith}
-use lib.ListN.{length, getD, set, drop, drop-of-length-le, length-append, length-drop}
-use lib.Seq.{drop-cons, sets, sets-eq, take-at, drop-append-add, drop-drop}
+use lib.ListN.{length, getD, set, drop, drop-of-length-le, length-append, length-drop, length-set}
+use lib.Seq.{drop-cons, sets, sets-eq, set-out, take-at, drop-append-add, drop-drop, getD-set-same, getD-set-other}
 
 module _ {A : Type 0} (s out : List A) where
   pub store-goes-on : (d : A) (at i : ℕ) → i < length s
@@ -29,3 +29,32 @@ stored-behind front s out n e h =
     sets-eq s (front ++ drop n out) n (simp (length-append, length-drop) (omega arith))
     ∙ ap (λ (l : List _). l ++ s ++ drop (n + length s) (front ++ drop n out)) (take-at front (drop n out) n e)
     ∙ ap (λ (l : List _). front ++ s ++ l) (ap (λ (k : ℕ). drop (k + length s) (front ++ drop n out)) (sym e) ∙ drop-append-add front (drop n out) (length s) ∙ drop-drop (length s) n out)
+
+-- two runs, the second where the first ends, are one
+pub sets-append : {A : Type 0} (l : List A) (i : ℕ) (xs ys : List A) → sets (sets l i xs) (i + length xs) ys ≡ sets l i (xs ++ ys)
+sets-append l i [] ys = ap (λ (k : ℕ). sets l k ys) (add-zero i)
+sets-append l i (x ∷ xs) ys =
+    ap (λ (k : ℕ). sets (sets (set l i x) (suc i) xs) k ys) (add-suc i (length xs) ∙ sym (suc-add i (length xs)))
+    ∙ sets-append (set l i x) (suc i) xs ys
+
+pub sets-out : {A : Type 0} (l : List A) (i : ℕ) (xs : List A) → length l ≤ i → sets l i xs ≡ l
+sets-out l i [] h = refl
+sets-out l i (x ∷ xs) h =
+    ap (λ (m : List _). sets m (suc i) xs) (set-out l i x h) ∙ sets-out l (suc i) xs (omega arith)
+
+-- what a run of stores leaves at a place before it
+sets-before : {A : Type 0} (l : List A) (i : ℕ) (xs : List A) (j : ℕ) (d : A) → j < i → getD (sets l i xs) j d ≡ getD l j d
+sets-before l i [] j d h = refl
+sets-before l i (x ∷ xs) j d h = sets-before (set l i x) (suc i) xs j d (omega arith) ∙ getD-set-other l i j x d (λ e. omega arith)
+
+-- the element stored there, or what was there
+pub getD-sets : {A : Type 0} (l : List A) (i : ℕ) (xs : List A) (k : ℕ) (d : A) → i + k < length l → getD (sets l i xs) (i + k) d ≡ getD xs k (getD l (i + k) d)
+getD-sets l i [] k d h = refl
+getD-sets l i (x ∷ xs) zero d h =
+    let e : i + 0 ≡ i = omega arith in
+    ap (λ (j : ℕ). getD (sets (set l i x) (suc i) xs) j d) e ∙ sets-before (set l i x) (suc i) xs i d (omega arith) ∙ getD-set-same l i x d (omega arith)
+getD-sets l i (x ∷ xs) (suc k) d h =
+    let e : i + suc k ≡ suc i + k = omega arith in
+    ap (λ (j : ℕ). getD (sets (set l i x) (suc i) xs) j d) e
+    ∙ getD-sets (set l i x) (suc i) xs k d (omega (arith, length-set l i x))
+    ∙ ap (getD xs k) (getD-set-other l i (suc i + k) x d (λ q. omega arith) ∙ ap (λ (j : ℕ). getD l j d) (sym e))

@@ -1,10 +1,12 @@
 -- In a table of cases whose numbers do not fall, the first case that applies has the smallest number of all that apply:
 -- what stands before it does not apply, and what stands behind it has no smaller number.
 use Prim.Native.Nat.{ℕ, _≤_}
-use mathlib.Core.Bool.{Bool, true, false}
+use mathlib.Core.Bool.{Bool, true, false, _&&_}
 use mathlib.Core.Path.{_≡_, refl, sym, ap, _∙_}
 use mathlib.Core.List.{List, [], _∷_}
 use native.Mathlib.Omega.{arith}
+use borrow.Author.Tests.{leb-true}
+use lib.Dec.{leb}
 use Rattle.refusals.specs.declared.Refusal.{Refusal}
 use Rattle.refusals.specs.declared.Verdict.the-variants.{Clear, Turned}
 use Rattle.refusals.specs.Refusals.{numberOf, Case, weighed, weighAll, smallest}
@@ -19,7 +21,7 @@ unfoldable pub Rising : ℕ → List Case → Type 0
 Rising n [] = Unit
 Rising n (c ∷ cs) = (n ≤ numberOf (c .refusal)) × Rising (numberOf (c .refusal)) cs
 
-turned-stands : (r : Refusal) (cs : List Case) → weighAll (Turned r) cs ≡ Turned r
+pub turned-stands : (r : Refusal) (cs : List Case) → weighAll (Turned r) cs ≡ Turned r
 unfolding weighAll weighed
 turned-stands r [] = refl
 turned-stands r (c ∷ cs) = turned-stands r cs
@@ -42,3 +44,19 @@ first-is-smallest n (c ∷ cs) r p e = go (c .applies) refl e (first-is-smallest
         let k : numberOf (c .refusal) ≡ numberOf r = ap numberOf s in
         ((λ b. omega arith), rising-least (numberOf r) (numberOf (c .refusal)) cs (omega arith) (p .1))
     go false a e rest = ((λ b. absurd (let z : _≡_ {A = Bool} true false = sym b ∙ a in let y : _≡_ {A = ℕ} 0 1 = cc in omega arith)), rest e)
+
+-- that the numbers of a table do not fall is computed, whatever its conditions are
+unfoldable pub rises : ℕ → List Case → Bool
+rises n [] = true
+rises n (c ∷ cs) = leb n (numberOf (c .refusal)) && rises (numberOf (c .refusal)) cs
+
+pub rising : (n : ℕ) (cs : List Case) → rises n cs ≡ true → Rising n cs
+unfolding rises Rising
+rising n [] e = tt
+rising n (c ∷ cs) e = go (leb n (numberOf (c .refusal))) refl e (rising (numberOf (c .refusal)) cs)
+  where
+    go : (x : Bool) → leb n (numberOf (c .refusal)) ≡ x → x && rises (numberOf (c .refusal)) cs ≡ true
+        → (rises (numberOf (c .refusal)) cs ≡ true → Rising (numberOf (c .refusal)) cs)
+        → (n ≤ numberOf (c .refusal)) × Rising (numberOf (c .refusal)) cs
+    go true p e later = (leb-true n (numberOf (c .refusal)) p, later e)
+    go false p e later = let z : _≡_ {A = ℕ} 0 1 = cc in absurd (omega arith)

@@ -1,0 +1,8 @@
+-- `entries::weigh_area` meets its contract, by those of its calls.
+use borrow.Author.Needs.{needs}
+use Rattle.entries.proofs.weigh_area.Statement.{statement}
+use Rattle.entries.proofs.weigh_area.Tie as tie
+
+pub weigh-area-spec : {M : Type 1} → statement M
+weigh-area-spec =
+    tie.close (tie.spec (λ c κs. search needs) (λ c κs. search needs) (λ c. simp (c .weigh .ensures, c .before .is-outside .ensures)))

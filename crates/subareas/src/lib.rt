@@ -1,0 +1,47 @@
+// The entry of a sub-area: S adds it.
+ghost use mathlib.Core.Path.{_≡_};
+ghost use Rattle.text.specs.Fields.{split};
+ghost use Rattle.entries.specs.Rules.{judged, addRule};
+use entries::Entry;
+use entries::Parsed;
+use refusals::Refusal;
+use refusals::Verdict;
+
+// Ten-thousandths of a hectare.
+const LEAST_HECTARES: u64 = 10000;
+
+const MOST_HECTARES: u64 = 100000000;
+
+// S,area,sub,hectares,type,planted
+pub fn add_entry(line: &[u8]) -> Parsed
+    ensures { λ r. ⌜ r ≡ judged (addRule (split (now (line .entry)))) ⌝ }
+{
+    let places = fields::scan(line);
+    let count = places.count;
+    let area = entries::number_at(line, places, 1);
+    let sub = entries::number_at(line, places, 2);
+    let hectares = decimals::hectares(fields::field(line, places, 3));
+    let named = forest::read(fields::field(line, places, 4));
+    let planted = entries::number_at(line, places, 5);
+    let v = refusals::weigh(Verdict::Clear, count != 6, Refusal::Form);
+    let v = entries::weigh_form(v, area);
+    let v = entries::weigh_form(v, sub);
+    let v = entries::weigh_form(v, hectares);
+    let v = entries::weigh_form(v, planted);
+    let v = entries::weigh_area(v, area);
+    let v = entries::weigh_sub(v, sub);
+    let v = refusals::weigh(v, entries::is_unlisted(named), Refusal::ForestType);
+    let too_small_or_large = numbers::is_outside(hectares, LEAST_HECTARES, MOST_HECTARES);
+    let v = refusals::weigh(v, too_small_or_large, Refusal::Hectares);
+    let v = refusals::weigh(v, entries::is_misdated(named, planted), Refusal::YearRange);
+    match v {
+        Verdict::Turned(refusal) => Parsed::Turned(refusal),
+        Verdict::Clear => Parsed::Taken(Entry::Add {
+            area: numbers::value_u16(area),
+            sub: numbers::value_u8(sub),
+            land: units::rounded(numbers::value_u32(hectares)),
+            forest: entries::forest_of(named),
+            planted: numbers::value_u16(planted),
+        }),
+    }
+}

@@ -1,0 +1,59 @@
+-- Writes: two of them, the second where the first ends, are one. A write that fits leaves the bytes, and all else as it was.
+use Prim.Native.Nat.{ℕ, _+_, _-_, _≤_, min}
+use mathlib.Core.Path.{_≡_, sym, ap, subst, _∙_}
+use mathlib.Core.List.{List, _++_, append-assoc}
+use mathlib.Core.Logic.{⊎-elim}
+use native.Mathlib.Omega.{arith}
+use lib.ListN.{length, take, drop, length-append}
+use lib.Seq.{sets, length-sets, sets-eq, take-at, drop-at, length-take-le}
+use Rattle.laws.proofs.Order.{below-or-not}
+use Rattle.laws.proofs.Stores.{sets-append, sets-out}
+use Rattle.text.specs.Writing.{Wrote, greatest}
+
+-- past the greatest place there is nothing to store to
+then-bytes : (l : List ℕ) (at p : ℕ) (xs ys : List ℕ) → length l ≤ greatest → p ≡ min (at + length xs) greatest → sets (sets l at xs) p ys ≡ sets l at (xs ++ ys)
+then-bytes l at p xs ys h e =
+    ⊎-elim
+    (λ past.
+    sets-out (sets l at xs) p ys (omega (arith, length-sets l at xs))
+    ∙ sym (sym (sets-append l at xs ys) ∙ sets-out (sets l at xs) (at + length xs) ys (omega (arith, length-sets l at xs))))
+    (λ fits. ap (λ (k : ℕ). sets (sets l at xs) k ys) (omega arith) ∙ sets-append l at xs ys)
+    (below-or-not greatest (at + length xs))
+
+pub wrote-then : {l : List ℕ} {at : ℕ} {xs ys m o : List ℕ} {p q : ℕ} → Wrote l at xs m p → Wrote m p ys o q → Wrote l at (xs ++ ys) o q
+wrote-then {l} {at} {xs} {ys} {m} {o} {p} {q} a b = record {
+  stored = b .stored ∙ ap (λ (k : List ℕ). sets k p ys) (a .stored) ∙ then-bytes l at p xs ys (a .lent) (a .place);
+  place = b .place ∙ simp length-append (omega (arith, a .place));
+  lent = a .lent;
+}
+
+-- a write with its bytes said another way
+pub wrote-as : {l : List ℕ} {at : ℕ} {xs ys o : List ℕ} {p : ℕ} → xs ≡ ys → Wrote l at xs o p → Wrote l at ys o p
+wrote-as {l} {at} {xs} {ys} {o} {p} e w = subst (λ (k : List ℕ). Wrote l at k o p) e w
+
+pub wrote-length : {l : List ℕ} {at : ℕ} {bs o : List ℕ} {p : ℕ} → Wrote l at bs o p → length o ≡ length l
+wrote-length {l} {at} {bs} {o} {p} w = ap length (w .stored) ∙ length-sets l at bs
+
+module _ {l : List ℕ} {at : ℕ} {bs o : List ℕ} {p : ℕ} (w : Wrote l at bs o p) (fits : at + length bs ≤ length l) where
+  pub wrote-next : p ≡ at + length bs
+  wrote-next = omega (arith, w .place, w .lent)
+
+  pub wrote-is : o ≡ take at l ++ (bs ++ drop p l)
+  wrote-is =
+      w .stored ∙ sets-eq bs l at fits ∙ append-assoc (take at l) bs (drop (at + length bs) l)
+      ∙ ap (λ (k : ℕ). take at l ++ (bs ++ drop k l)) (sym wrote-next)
+
+  pub wrote-before : take at o ≡ take at l
+  wrote-before = ap (take at) wrote-is ∙ take-at (take at l) (bs ++ drop p l) at (length-take-le at l (omega arith))
+
+  pub wrote-part : take (p - at) (drop at o) ≡ bs
+  wrote-part =
+      ap (λ (k : List ℕ). take (p - at) (drop at k)) wrote-is
+      ∙ ap (take (p - at)) (drop-at (take at l) (bs ++ drop p l) at (length-take-le at l (omega arith)))
+      ∙ take-at bs (drop p l) (p - at) (omega (arith, wrote-next))
+
+  pub wrote-after : drop p o ≡ drop p l
+  wrote-after =
+      ap (drop p) (wrote-is ∙ sym (append-assoc (take at l) bs (drop p l)))
+      ∙ drop-at (take at l ++ bs) (drop p l) p
+      (length-append (take at l) bs ∙ ap (λ (k : ℕ). k + length bs) (length-take-le at l (omega arith)) ∙ sym wrote-next)

@@ -1,0 +1,43 @@
+// Bytes written into a lent buffer. A byte past the buffer's end is not stored and the place moves on all the same, so that writing measures.
+ghost use mathlib.Core.List.{_∷_, []};
+ghost use Rattle.text.specs.Digits.{digits};
+ghost use Rattle.text.specs.Writing.{Wrote};
+
+const GREATEST: usize = 18446744073709551615;
+
+// Puts a byte at a place; the answer, here and below, is the place after what was put.
+pub fn put_byte(out: &mut [u8], at: usize, byte: u8) -> usize
+    ensures { λ r. ⌜ Wrote (now (out .entry)) at (byte ∷ []) (now (out .exit)) r ⌝ }
+{
+    if at < out.len() {
+        out[at] = byte;
+        return at + 1;
+    }
+    if at < GREATEST {
+        return at + 1;
+    }
+    GREATEST
+}
+
+pub fn put_bytes(out: &mut [u8], at: usize, bytes: &[u8]) -> usize
+    ensures { λ r. ⌜ Wrote (now (out .entry)) at (now (bytes .entry)) (now (out .exit)) r ⌝ }
+{
+    let mut next = at;
+    let mut i = 0;
+    while i < bytes.len() {
+        next = put_byte(out, next, bytes[i]);
+        i += 1;
+    }
+    next
+}
+
+// Puts a number's digits.
+pub fn put_number(out: &mut [u8], at: usize, number: u64) -> usize
+    ensures { λ r. ⌜ Wrote (now (out .entry)) at (digits number) (now (out .exit)) r ⌝ }
+{
+    if number < 10 {
+        return put_byte(out, at, 48 + number as u8);
+    }
+    let next = put_number(out, at, number / 10);
+    put_byte(out, next, 48 + (number % 10) as u8)
+}
