@@ -5,7 +5,7 @@ use refusals::Refusal;
 use refusals::Verdict;
 use units::Kilograms;
 ghost use mathlib.Core.Path.{_≡_};
-ghost use Prim.Native.Nat.{_≤_};
+ghost use Prim.Native.Nat.{_*_, _≤_};
 ghost use lib.ListN.{take};
 ghost use Rattle.laws.specs.Elements.{sumBy};
 ghost use Rattle.refusals.specs.Refusals.{smallest};
@@ -67,7 +67,7 @@ fn judge(parcels: [Parcel; 64], count: usize) -> Verdict
 
 // A parcel's emissions in kilograms, by the cells of Schedule 4.
 fn kilograms(cells: &[u16], p: Parcel) -> u64
-    ensures { λ r. ⌜ (r ≡ kilogramsOf (now (cells .entry)) p) × (r ≤ 2814707278800) ⌝ }
+    ensures { λ r. ⌜ (r ≡ kilogramsOf (now (cells .entry)) p) × (r ≤ 4294967295 * 65535 * 10) ⌝ }
 {
     let counted = parcels::counted(p);
     let forest = counted.forest;

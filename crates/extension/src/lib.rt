@@ -14,8 +14,8 @@ use tables::Written;
 fn is_free(table: &[u16], column: usize) -> bool
     ensures { λ r. ⌜ r ≡ isFree (now (table .entry)) column ⌝ }
 {
-    let lengths = tables::part(table, 0, 10);
-    let from_column = tables::part(lengths, column, 10);
+    let lengths = tables::part(table, 0, tables::COLUMNS);
+    let from_column = tables::part(lengths, column, tables::COLUMNS);
     tables::each_at_most(from_column, 0)
 }
 
@@ -24,10 +24,14 @@ fn judge(table: &[u16], column: usize, cells: &[u16], room: usize) -> Verdict
 {
     let whole = tables::has_columns(table);
     let v = refusals::weigh(Verdict::Clear, !whole, Refusal::TableColumn);
-    let v = refusals::weigh(v, 10 <= column, Refusal::TableColumn);
+    let v = refusals::weigh(v, tables::COLUMNS <= column, Refusal::TableColumn);
     let v = refusals::weigh(v, cells.len() == 0, Refusal::TableColumn);
-    let v = refusals::weigh(v, 101 < cells.len(), Refusal::TableColumn);
-    let low = tables::each_at_most(cells, 30000);
+    let v = refusals::weigh(
+        v,
+        (tables::LONGEST_COLUMN as usize) < cells.len(),
+        Refusal::TableColumn,
+    );
+    let low = tables::each_at_most(cells, tables::CELL_CEILING);
     let v = refusals::weigh(v, !low, Refusal::TableColumn);
     let free = is_free(table, column);
     let v = refusals::weigh(v, !free, Refusal::TableColumn);

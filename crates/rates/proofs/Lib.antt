@@ -1,1 +1,3 @@
 pub mod LookUp
+pub mod Default
+pub mod Ceiling

@@ -1,6 +1,6 @@
 -- The look-up by where the age lies, and the column consulted by its length.
-use Prim.Native.Nat.{ℕ, _+_, _-_, _<_, _≤_, min}
-use mathlib.Core.Path.{_≡_, refl, sym, ap, _∙_}
+use Prim.Native.Nat.{ℕ, _-_, _<_, _≤_, min}
+use mathlib.Core.Path.{_≡_, refl, sym, ap}
 use mathlib.Core.Bool.{Bool, true, false, cond}
 use mathlib.Core.List.{List, []}
 use native.Mathlib.Omega.{arith}
@@ -10,7 +10,7 @@ use lib.ListN.{length, getD, List·getD-eq-default}
 use Rattle.forest.specs.declared.Forest.{Forest}
 use Rattle.forest.specs.declared.Forest.the-variants.{Bare, Radiata, DouglasFir, ExoticSoftwoods, ExoticHardwoods, Indigenous}
 use Rattle.schedules.specs.declared.Kind.{Kind}
-use Rattle.schedules.specs.Columns.{Column, listed}
+use Rattle.schedules.specs.Columns.{listed}
 use Rattle.schedules.specs.Schedules.{placeSix}
 use Rattle.tables.specs.Participant.{lengthOf, ownColumn}
 use Rattle.rates.specs.Rates.{ownStock, ownNumber, atPlace, consulted, firstAge, cellAt}

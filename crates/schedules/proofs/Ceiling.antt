@@ -1,5 +1,4 @@
 -- "The default cells are at most 30,000 tenths each": one test over both schedules, which antt computes; each schedule is a part of them.
-use Prim.Native.Nat.{ℕ}
 use mathlib.Core.Path.{_≡_, refl}
 use mathlib.Core.Bool.{true}
 use mathlib.Core.List.{_++_}

@@ -1,10 +1,9 @@
 -- The part of a schedule's cells at a column's place is the column: the cells before it are those of the columns before it.
 use Prim.Native.Nat.{ℕ, zero, suc, _+_}
-use mathlib.Core.Path.{_≡_, refl, sym, ap, _∙_}
+use mathlib.Core.Path.{_≡_, refl, ap, _∙_}
 use mathlib.Core.List.{List, [], _∷_, _++_, append-assoc, append-nil}
-use native.Mathlib.Nat.{zero-add, add-assoc}
 use lib.ListN.{length, getD, take, drop, length-append}
-use lib.Seq.{take-append-seam, drop-append-seam, take-at, drop-at}
+use lib.Seq.{take-append-seam, drop-at}
 use Rattle.forest.specs.declared.Forest.{Forest}
 use Rattle.forest.specs.Order.{orderOf}
 use Rattle.schedules.specs.declared.Kind.{Kind}
@@ -12,7 +11,7 @@ use Rattle.schedules.specs.declared.Kind.the-variants.{Stock, Residue}
 use Rattle.schedules.specs.declared.Place.{Place}
 use Rattle.schedules.specs.Columns.{Column, noColumn, joined, nowhere, placesFrom}
 use Rattle.schedules.specs.Cells.{stock4, stock6, residue6}
-use Rattle.schedules.specs.Schedules.{schedule4, schedule6, columnOf, placeOf, columnFour, columnSix, placeFour, placeSix}
+use Rattle.schedules.specs.Schedules.{schedule4, schedule6, columnFour, columnSix, placeFour, placeSix}
 
 -- a place holds a column: its cells stand there, and the first ages agree
 pub record Holds (cells : List ℕ) (p : Place) (c : Column) : Type 0 where

@@ -1,6 +1,6 @@
 -- What a verdict makes of an answer and of the buffer.
 use Prim.Native.Nat.{ℕ}
-use mathlib.Core.Path.{_≡_, ap, sym, _∙_}
+use mathlib.Core.Path.{_≡_, ap}
 use mathlib.Core.List.{List, _++_}
 use lib.ListN.{length, drop}
 use Rattle.refusals.specs.declared.Refusal.{Refusal}

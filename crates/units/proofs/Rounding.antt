@@ -6,9 +6,8 @@ use native.Mathlib.Omega.{arith}
 use lib.Dec.{leb}
 use lib.IntN.{ℤ, pos, negsuc, negℤ, natAbs, _-ℤ_, _*ℤ_}
 use borrow.Author.Tests.{leb-true, leb-false}
-use Rattle.laws.proofs.Signed.{above, below, ints, ℤ-same, one-side, neg-read, diff-read, times-read, abs-read}
+use Rattle.laws.proofs.Signed.{ints, ℤ-same, one-side, neg-read, diff-read, times-read, abs-read}
 use Rattle.units.specs.declared.Kilograms.{Kilograms}
-use Rattle.units.specs.declared.Change.{Change}
 use Rattle.units.specs.declared.Change.the-variants.{Gain, Loss}
 use Rattle.units.specs.Tonnes.{tonnes, nearestTonne, value, changeBetween}
 

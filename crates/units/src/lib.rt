@@ -1,6 +1,7 @@
 // The three units of the accounts, and the rounding to tenths of a hectare and to tonnes.
 // Products alone turn tenths of a hectare and tenths of a tonne per hectare into kilograms.
 ghost use mathlib.Core.Path.{_≡_};
+ghost use Prim.Native.Nat.{_*_, _≤_};
 ghost use Rattle.units.specs.Units.{tenthsOf, treesOf, residueOf};
 ghost use Rattle.units.specs.Tonnes.{tonnes, changeBetween};
 
@@ -28,14 +29,14 @@ pub fn rounded(ten_thousandths: u32) -> Tenths
 impl Tenths {
     // The stock of trees on this land.
     pub fn trees(self, rate: Rate) -> Kilograms
-        ensures { λ r. ⌜ r ≡ treesOf self rate ⌝ }
+        ensures { λ r. ⌜ (r ≡ treesOf self rate) × (r .0 ≤ 4294967295 * 65535 * 10) ⌝ }
     {
         Kilograms(self.0 as u64 * rate.0 as u64 * 10)
     }
 
     // What remains of the residue of a clearing, of which `share` tenths are left.
     pub fn residue(self, rate: Rate, share: u8) -> Kilograms
-        ensures { λ r. ⌜ r ≡ residueOf self rate share ⌝ }
+        ensures { λ r. ⌜ (r ≡ residueOf self rate share) × (r .0 ≤ 4294967295 * 65535 * 255) ⌝ }
     {
         Kilograms(self.0 as u64 * rate.0 as u64 * share as u64)
     }

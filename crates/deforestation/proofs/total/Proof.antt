@@ -14,7 +14,7 @@ use Rattle.deforestation.proofs.total.Tie as tie
 abbrev Inv-loop : tie.InvT-loop
 Inv-loop cells count parcels sum₀ i₀ sum i =
     (sum + sumBy (kilogramsOf cells) (drop i (take count parcels)) ≡ sumBy (kilogramsOf cells) (take count parcels))
-    × (sum ≤ 2814707278800 * i)
+    × (sum ≤ 4294967295 * 65535 * 10 * i)
 
 abbrev μ-loop : tie.MeasureT-loop
 μ-loop cells count parcels sum₀ i₀ sum i = 64 - i

@@ -1,6 +1,5 @@
 -- `extension::extend_begun` meets its contract: a clear verdict leaves room for the longer table, and a refusal leaves the buffer.
 use mathlib.Core.Path.{sym, _∙_}
-use native.Mathlib.Omega.{arith}
 use lib.ListN.{length}
 use Rattle.tables.proofs.Answers.{when-turned, when-clear}
 use Rattle.extension.specs.Extension.{longer}

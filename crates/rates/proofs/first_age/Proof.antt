@@ -1,7 +1,6 @@
 -- `rates::first_age` meets its contract, by the length of the participant's column.
-use mathlib.Core.Path.{_≡_, sym, ap, _∙_}
+use mathlib.Core.Path.{sym, ap, _∙_}
 use mathlib.Core.List.{[]}
-use Prim.Native.Nat.{ℕ}
 use Rattle.schedules.specs.declared.Place.{Place}
 use Rattle.schedules.specs.Columns.{Column}
 use Rattle.tables.specs.Participant.{lengthOf}

@@ -1,5 +1,5 @@
 -- `rates::share` meets its contract: the constant's shares are the table's, and past the table there is none.
-use mathlib.Core.Path.{_≡_, sym}
+use mathlib.Core.Path.{sym}
 use native.Mathlib.Omega.{arith}
 use lib.ListN.{List·getD-eq-default}
 use Rattle.rates.specs.Decay.{shares, shareAfter}

@@ -1,5 +1,4 @@
 -- `tables::column_length` meets its contract: past the table and past the tenth number there is no length.
-use mathlib.Core.Path.{_∙_}
 use native.Mathlib.Omega.{arith}
 use Rattle.tables.proofs.Parts.{no-length, past-length, length-read}
 use borrow.Author.Needs.{needs}

@@ -1,5 +1,5 @@
 -- `units::rounded` meets its contract: the rest of a thousand counts as one from 500 on.
-use mathlib.Core.Path.{_≡_, ap}
+use mathlib.Core.Path.{_≡_}
 use Prim.Native.Nat.{_+_, _/_, _%_}
 use native.Mathlib.Omega.{arith}
 use borrow.Author.Needs.{needs}

@@ -20,7 +20,9 @@ mul-t8 c = let a = c .before .before .args in omega (arith, stock-fits (a .self 
 
 returns : tie.Need-returns
 unfolding residueOf
-returns c = search needs
+returns c =
+    let a = c .before .before .args in
+    (search needs, omega (arith, stock-fits (a .self .0) (a .rate .0) (a .share) (omega arith) (omega arith) (omega arith)))
 
 pub residue-spec : {M : Type 1} → statement M
 residue-spec = tie.close (tie.spec cast-t4 cast-t5 mul-t6 mul-t8 returns)

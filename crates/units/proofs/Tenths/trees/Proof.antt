@@ -20,7 +20,9 @@ mul-t6 c = let a = c .before .before .args in omega (arith, product-fits (a .sel
 
 returns : tie.Need-returns
 unfolding treesOf
-returns c = search needs
+returns c =
+    let a = c .before .before .args in
+    (search needs, omega (arith, product-fits (a .self .0) (a .rate .0) (omega arith) (omega arith)))
 
 pub trees-spec : {M : Type 1} → statement M
 trees-spec = tie.close (tie.spec cast-t3 cast-t4 mul-t5 mul-t6 returns)

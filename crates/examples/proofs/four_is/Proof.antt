@@ -1,0 +1,28 @@
+-- `examples::four_is` meets its contract, by what the rate is.
+use mathlib.Core.Path.{ap, _∙_}
+use Prim.Native.Nat.{ℕ}
+use mathlib.Core.List.{List}
+use lib.Dec.{eqb}
+use Rattle.units.specs.declared.Rate.{Rate}
+use Rattle.rates.specs.Rates.{rateFour}
+use Rattle.examples.specs.Examples.{fourIs}
+use borrow.Author.Needs.{needs}
+use Rattle.examples.proofs.four_is.Statement.{statement}
+use Rattle.examples.proofs.four_is.Tie as tie
+
+returns : tie.Need-returns
+unfolding fourIs
+returns c =
+    let a = c .before .before .before .before .args in
+    ap (λ (r : Rate). eqb (r .0) (a .tenths))
+    (c .before .rate-four .ensures
+    ∙ ap (λ (cells : List ℕ). rateFour cells (a .forest) (a .age)) (c .before .before .before .schedule-four .ensures))
+
+pub four-is-spec : {M : Type 1} → statement M
+four-is-spec =
+    tie.close
+    (tie.spec
+    (λ c κs. search needs)
+    (λ c. search needs)
+    (λ c κs. search needs)
+    returns)

@@ -1,0 +1,26 @@
+-- Each check is true: antt computes the cell.
+use Rattle.laws.specs.Lists.{sumOf}
+use Rattle.schedules.specs.Columns.{joined, placesFrom}
+use Rattle.schedules.specs.Cells.{stock6, residue6}
+use Rattle.schedules.specs.Schedules.{placeSix, schedule6}
+use Rattle.tables.specs.Participant.{lengthOf, ownColumn}
+use Rattle.rates.specs.Rates.{consulted, cellAt, rateSix}
+use Rattle.examples.specs.Examples.{ownIs}
+use borrow.Author.Needs.{needs}
+use Rattle.examples.proofs.participants_cells.Statement.{statement}
+use Rattle.examples.proofs.participants_cells.Tie as tie
+
+pub participants-cells-spec : {M : Type 1} → statement M
+unfolding ownIs rateSix consulted lengthOf ownColumn placeSix placesFrom schedule6 joined stock6 residue6 cellAt sumOf
+participants-cells-spec =
+    tie.close
+    (tie.spec
+    (λ c κs. search needs)
+    (λ c κs. c .own-is .ensures)
+    (λ c κs. search needs)
+    (λ c κs. c .own-is2 .ensures)
+    (λ c κs. search needs)
+    (λ c κs. c .own-is3 .ensures)
+    (λ c κs. search needs)
+    (λ c κs. c .own-is4 .ensures)
+    (λ c. search needs))

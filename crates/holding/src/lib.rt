@@ -1,0 +1,128 @@
+// The state of the accounts: a holding of accounting areas, each of sub-areas, by value.
+ghost use mathlib.Core.Path.{_≡_};
+ghost use Rattle.holding.specs.Holding.{emptySub, emptyArea, emptyHolding};
+ghost use Rattle.holding.specs.Find.{findArea, findSub};
+use forest::Forest;
+use units::Kilograms;
+use units::Tenths;
+
+// What is left of the latest clearing: the type and age of the trees cleared, and the year. Bare land where there is none.
+pub struct Residue {
+    pub forest: Forest,
+    pub age: u16,
+    pub year: u16,
+}
+
+pub struct Sub {
+    pub number: u8,
+    pub tenths: Tenths,
+    pub forest: Forest,
+    pub planted: u16,
+    pub residue: Residue,
+}
+
+// An accounting area. The stock is the last closing stock, or the opening stock before the first return.
+pub struct Area {
+    pub number: u16,
+    pub opening: u16,
+    pub open_year: u16,
+    pub latest: u16,
+    pub withdrawn: bool,
+    pub returns: u16,
+    pub stock: Kilograms,
+    pub received: u64,
+    pub surrendered: u64,
+    pub count: usize,
+    pub subs: [Sub; 16],
+}
+
+// The first `count` areas stand; the other places hold the empty area.
+pub struct Holding {
+    pub count: usize,
+    pub areas: [Area; 16],
+}
+
+// A place in a list, if there is one.
+pub enum Found {
+    At(usize),
+    Nowhere,
+}
+
+pub fn empty_sub() -> Sub
+    ensures { λ r. ⌜ r ≡ emptySub ⌝ }
+{
+    Sub {
+        number: 0,
+        tenths: Tenths(0),
+        forest: Forest::Bare,
+        planted: 0,
+        residue: Residue {
+            forest: Forest::Bare,
+            age: 0,
+            year: 0,
+        },
+    }
+}
+
+pub fn empty_area() -> Area
+    ensures { λ r. ⌜ r ≡ emptyArea ⌝ }
+{
+    Area {
+        number: 0,
+        opening: 0,
+        open_year: 0,
+        latest: 0,
+        withdrawn: false,
+        returns: 0,
+        stock: Kilograms(0),
+        received: 0,
+        surrendered: 0,
+        count: 0,
+        subs: [empty_sub(); 16],
+    }
+}
+
+pub fn empty_holding() -> Holding
+    ensures { λ r. ⌜ r ≡ emptyHolding ⌝ }
+{
+    Holding {
+        count: 0,
+        areas: [empty_area(); 16],
+    }
+}
+
+// The place of the standing area with the number.
+pub fn find_area(holding: Holding, number: u16) -> Found
+    ensures { λ r. ⌜ r ≡ findArea holding number ⌝ }
+{
+    let n = holding.count;
+    let mut i: usize = 0;
+    while i < 16 {
+        if n <= i {
+            return Found::Nowhere;
+        }
+        if holding.areas[i].number == number {
+            return Found::At(i);
+        }
+        i += 1;
+    }
+    Found::Nowhere
+}
+
+// The place of the standing sub-area with the number.
+pub fn find_sub(area: Area, number: u8) -> Found
+    ensures { λ r. ⌜ r ≡ findSub area number ⌝ }
+{
+    let n = area.count;
+    let mut i: usize = 0;
+    while i < 16 {
+        if n <= i {
+            return Found::Nowhere;
+        }
+        if area.subs[i].number == number {
+            return Found::At(i);
+        }
+        i += 1;
+    }
+    Found::Nowhere
+}

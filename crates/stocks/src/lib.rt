@@ -1,0 +1,65 @@
+// The carbon stock of a sub-area and of an area on 1 January of a year.
+ghost use mathlib.Core.Path.{_≡_};
+ghost use Prim.Native.Nat.{_-_, _*_, _≤_};
+ghost use Rattle.stocks.specs.Stocks.{treesOn, residueOn, subStock, areaStock};
+use holding::Area;
+use holding::Sub;
+use schedules::Kind;
+use units::Kilograms;
+
+fn years_from(year: u16, later: u16) -> u16
+    ensures { λ r. ⌜ r ≡ later - year ⌝ }
+{
+    if later < year {
+        return 0;
+    }
+    later - year
+}
+
+fn trees_on<'a>(own: &'a [u16], default: &'a [u16], sub: Sub, year: u16) -> Kilograms
+    ensures { λ r. ⌜ (r ≡ treesOn (now (own .entry)) (now (default .entry)) sub year) × (r .0 ≤ 4294967295 * 65535 * 10) ⌝ }
+{
+    let land = sub.tenths;
+    let forest = sub.forest;
+    let age = years_from(sub.planted, year);
+    let rate = rates::rate_six(own, default, Kind::Stock, forest, age);
+    land.trees(rate)
+}
+
+fn residue_on<'a>(own: &'a [u16], default: &'a [u16], sub: Sub, year: u16) -> Kilograms
+    ensures { λ r. ⌜ (r ≡ residueOn (now (own .entry)) (now (default .entry)) sub year) × (r .0 ≤ 4294967295 * 65535 * 255) ⌝ }
+{
+    let land = sub.tenths;
+    let residue = sub.residue;
+    let forest = residue.forest;
+    let share = rates::share(years_from(residue.year, year));
+    let rate = rates::rate_six(own, default, Kind::Residue, forest, residue.age);
+    land.residue(rate, share)
+}
+
+// Both tables are lent: the participant's, and the cells of Schedule 6.
+pub fn sub_stock<'a>(own: &'a [u16], default: &'a [u16], sub: Sub, year: u16) -> Kilograms
+    ensures { λ r. ⌜ (r ≡ subStock (now (own .entry)) (now (default .entry)) sub year) × (r .0 ≤ 4294967295 * 65535 * 265) ⌝ }
+{
+    let trees = trees_on(own, default, sub, year);
+    let residue = residue_on(own, default, sub, year);
+    Kilograms(trees.0 + residue.0)
+}
+
+pub fn area_stock<'a>(own: &'a [u16], default: &'a [u16], area: Area, year: u16) -> Kilograms
+    ensures { λ r. ⌜ r ≡ areaStock (now (own .entry)) (now (default .entry)) area year ⌝ }
+{
+    let n = area.count;
+    let mut sum: u64 = 0;
+    let mut i: usize = 0;
+    while i < 16 {
+        if n <= i {
+            return Kilograms(sum);
+        }
+        let sub = area.subs[i];
+        let stock = sub_stock(own, default, sub, year);
+        sum += stock.0;
+        i += 1;
+    }
+    Kilograms(sum)
+}
