@@ -14,8 +14,8 @@ use Rattle.parcels.specs.declared.Faults.{Faults}
 use Rattle.parcels.specs.declared.Amiss.{Amiss}
 
 -- the parcel's own clearing
-abbrev pub own : Parcel → Clearing
-own p = record { forest = p .forest; planted = p .planted; cleared = p .cleared }
+abbrev pub ownClearing : Parcel → Clearing
+ownClearing p = record { forest = p .forest; planted = p .planted; cleared = p .cleared }
 
 -- the earlier clearings given, of which four are held at most
 abbrev pub earlierOf : Parcel → List Clearing
@@ -23,7 +23,7 @@ earlierOf p = take (p .count) (p .earlier)
 
 -- the clearing whose trees count
 unfoldable pub countedOf : Parcel → Clearing
-countedOf p = countingOf (own p) (earlierOf p)
+countedOf p = countingOf (ownClearing p) (earlierOf p)
 
 -- "3 type (B too in a .. parcel)"
 abbrev pub isBare : Clearing → Bool
@@ -51,13 +51,13 @@ amissOf own earlier = record {
 -- what is wrong with a parcel
 unfoldable pub faultsOf : Parcel → Faults
 faultsOf p = record {
-  bare = amissOf (own p) (earlierOf p) .bare;
+  bare = amissOf (ownClearing p) (earlierOf p) .bare;
   -- "hectares (in ten-thousandths, 1 to 10000 ha)"
   hectares = ltb (p .hectares) 10000 || ltb 100000000 (p .hectares);
   -- "the parcel is cleared in 2008 to 2199"
-  years = ltb (p .cleared) 2008 || amissOf (own p) (earlierOf p) .years;
+  years = ltb (p .cleared) 2008 || amissOf (ownClearing p) (earlierOf p) .years;
   -- "over four earlier clearings"
-  order = ltb 4 (p .count) || amissOf (own p) (earlierOf p) .order;
+  order = ltb 4 (p .count) || amissOf (ownClearing p) (earlierOf p) .order;
   -- "no trees of nine years"
   young = ltb (ageOf (countedOf p)) 9;
 }

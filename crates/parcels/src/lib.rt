@@ -3,7 +3,7 @@ use clearings::Clearing;
 use forest::Forest;
 ghost use mathlib.Core.Path.{_≡_};
 ghost use lib.ListN.{take};
-ghost use Rattle.parcels.specs.Parcels.{own, countedOf, isBare, offYears, outOfYears, misordered, amissOf, faultsOf};
+ghost use Rattle.parcels.specs.Parcels.{ownClearing, countedOf, isBare, offYears, outOfYears, misordered, amissOf, faultsOf};
 
 // Hectares are ten-thousandths; the earlier clearings are the first `count`.
 pub struct Parcel {
@@ -32,7 +32,7 @@ struct Amiss {
 }
 
 fn own_clearing(p: Parcel) -> Clearing
-    ensures { λ r. ⌜ r ≡ own p ⌝ }
+    ensures { λ r. ⌜ r ≡ ownClearing p ⌝ }
 {
     let forest = p.forest;
     Clearing {
