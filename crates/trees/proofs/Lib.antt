@@ -1,4 +1,3 @@
 pub mod Determined
-pub mod Examples
 pub mod Judged
 pub mod Refused

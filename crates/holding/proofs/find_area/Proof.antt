@@ -28,17 +28,17 @@ returns : tie.Need-returns Inv-loop μ-loop
 returns c = place-end _ _ _ _ _ (c .if1 .taken) ∙ c .before .before .loop .inv
 
 returns-2 : tie.Need-returns-2 Inv-loop μ-loop
-returns-2 c = 
+returns-2 c =
     let b = c .before .before .before in
     place-here _ _ _ _ _ _ (c .before .if1 .left) (omega (arith, sixteen (b .before))) (c .if2 .taken) ∙ b .loop .inv
 
 loop-again : tie.Need-loop-again Inv-loop μ-loop
-loop-again c = 
+loop-again c =
     let b = c .before .before .before in
     place-later _ _ _ _ _ _ (c .before .if1 .left) (omega (arith, sixteen (b .before))) (c .if2 .left) ∙ b .loop .inv
 
 returns-3 : tie.Need-returns-3 Inv-loop μ-loop
-returns-3 c = 
+returns-3 c =
     let b = c .before in
     let a = b .before .args in
     place-out (λ (x : Area). x .number) (a .number) (a .t1 .areas) (a .t1 .count) (b .loop .i) (omega (arith, sixteen (b .before))) ∙ b .loop .inv

@@ -40,7 +40,7 @@ add-sum : tie.Need-add-sum Inv-loop μ-loop
 add-sum c = omega (arith, c .before .sub-stock .ensures .1, c .before .before .before .before .before .loop .inv .1)
 
 loop-again : tie.Need-loop-again Inv-loop μ-loop
-loop-again c = 
+loop-again c =
     let l = c .before .before .before .before .before .loop in (
       omega arith,
       omega (arith, c .before .sub-stock .ensures .1, l .inv .1),
@@ -50,12 +50,12 @@ loop-again c =
     )
 
 returns-2 : tie.Need-returns-2 Inv-loop μ-loop
-returns-2 c = 
+returns-2 c =
     let s = c .before .before .before .before in
     let a = s .args in
     ap kilograms
-        (sum-out (λ (sub : Sub). subStock (a .own .now) (a .default .now) sub (a .year) .0) (a .t3 .subs) (a .t3 .count) (c .before .loop .i) _ _
-        (c .before .loop .inv .2) (omega (arith, sixteen s)))
+    (sum-out (λ (sub : Sub). subStock (a .own .now) (a .default .now) sub (a .year) .0) (a .t3 .subs) (a .t3 .count) (c .before .loop .i) _ _
+    (c .before .loop .inv .2) (omega (arith, sixteen s)))
 
 pub area-stock-spec : {M : Type 1} → statement M
 area-stock-spec =

@@ -1,0 +1,25 @@
+-- What an answer about land comes to, as a number; 0 for a refusal.
+use Prim.Native.Nat.{ℕ}
+use mathlib.Core.List.{List}
+use Rattle.deforestation.specs.declared.Emissions.{Emissions}
+use Rattle.deforestation.specs.declared.Emissions.the-variants.{Tonnes, Turned as Refused}
+use Rattle.deforestation.specs.Emissions.{emissionsOf}
+use Rattle.groups.specs.declared.Group.{Group}
+use Rattle.parcels.specs.declared.Parcel.{Parcel}
+use Rattle.trees.specs.declared.Hectare.{Hectare}
+use Rattle.trees.specs.declared.Hectare.the-variants.{Of, Turned}
+use Rattle.trees.specs.Hectares.{hectareOf}
+
+abbrev pub tonnesIn : Emissions → ℕ
+tonnesIn (Tonnes n) = n
+tonnesIn (Refused r) = 0
+
+unfoldable pub tonnesOf : ℕ → List Parcel → ℕ
+tonnesOf count ps = tonnesIn (emissionsOf count ps)
+
+abbrev pub ageIn : Hectare → ℕ
+ageIn (Of forest age) = age
+ageIn (Turned r) = 0
+
+unfoldable pub agedOf : ℕ → List Group → ℕ
+agedOf count gs = ageIn (hectareOf count gs)
