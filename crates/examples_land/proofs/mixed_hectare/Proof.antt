@@ -1,32 +1,22 @@
-use Prim.Native.Nat.{ℕ, suc, _+_, _-_, _≤_, _<_}
-use mathlib.Core.Path.{_≡_, refl, sym, ap, _∙_}
-use mathlib.Core.Logic.{⊎-elim}
-use native.Mathlib.Omega.{arith}
-use lib.ListN.{length, drop, getD, length-set}
+-- Each check is true: antt computes the answer.
+use borrow.Author.Tests.{eq-eqb}
+use Rattle.laws.specs.Elements.{some, sumBy}
+use Rattle.refusals.specs.Refusals.{weighed, weighAll, smallest}
+use Rattle.groups.specs.Sums.{speciesArea, weightsOf, halfUp, meanAge}
+use Rattle.predominance.specs.Predominance.{leading, predominantOf}
+use Rattle.trees.specs.Hectares.{faultsOf, cases, answerOf, hectareOf}
+use Rattle.examples_land.specs.Land.{agedOf}
 use borrow.Author.Needs.{needs}
 use Rattle.examples_land.proofs.mixed_hectare.Statement.{statement}
 use Rattle.examples_land.proofs.mixed_hectare.Tie as tie
-use Rattle.examples_land.proofs.mixed_hectare.Reads as reads
-use Rattle.examples_land.proofs.mixed_hectare.Lts as lts
-use Rattle.check.proofs.expect.Reads as expect-reads
-use Rattle.examples_land.proofs.aged.Reads as aged-reads
-
-array-set-from-groups : tie.Need-array-set-from-groups
-array-set-from-groups c = search needs
-
-array-set-from-groups-2 : tie.Need-array-set-from-groups-2
-array-set-from-groups-2 c = search needs
-
-aged-requires : tie.Need-aged-requires
-aged-requires c κs = search needs
-
-expect-requires : tie.Need-expect-requires
-expect-requires c κs = ?
-
-returns : tie.Need-returns
-returns c = search needs
 
 pub mixed-hectare-spec : {M : Type 1} → statement M
+unfolding some sumBy weighed weighAll smallest speciesArea weightsOf halfUp meanAge leading predominantOf faultsOf cases answerOf hectareOf agedOf
 mixed-hectare-spec =
     tie.close
-    (tie.spec array-set-from-groups array-set-from-groups-2 aged-requires expect-requires returns)
+    (tie.spec
+    (λ c. search needs)
+    (λ c. search needs)
+    (λ c κs. search needs)
+    (λ c κs. eq-eqb (c .aged .result) 11 (c .aged .ensures))
+    (λ c. search needs))

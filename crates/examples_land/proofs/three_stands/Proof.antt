@@ -1,37 +1,28 @@
-use Prim.Native.Nat.{ℕ, suc, _+_, _-_, _≤_, _<_}
-use mathlib.Core.Path.{_≡_, refl, sym, ap, _∙_}
-use mathlib.Core.Logic.{⊎-elim}
-use native.Mathlib.Omega.{arith}
-use lib.ListN.{length, drop, getD, length-set}
+-- Each check is true: antt computes the answer.
+use borrow.Author.Tests.{eq-eqb}
+use Rattle.laws.specs.Elements.{some, keep, sumBy}
+use Rattle.units.specs.Units.{tenthsOf, treesOf}
+use Rattle.units.specs.Tonnes.{tonnes}
+use Rattle.refusals.specs.Refusals.{weighed, weighAll, smallest}
+use Rattle.schedules.specs.Columns.{joined, placesFrom}
+use Rattle.schedules.specs.Cells.{stock4}
+use Rattle.schedules.specs.Schedules.{schedule4, placeFour}
+use Rattle.rates.specs.Rates.{cellAt, rateFour}
+use Rattle.clearings.specs.Counting.{elder, countingOf}
+use Rattle.parcels.specs.Parcels.{countedOf, amissOf, faultsOf}
+use Rattle.deforestation.specs.Emissions.{faultsAmong, cases, kilogramsOf, answerOf, emissionsOf}
+use Rattle.examples_land.specs.Land.{tonnesOf}
 use borrow.Author.Needs.{needs}
 use Rattle.examples_land.proofs.three_stands.Statement.{statement}
 use Rattle.examples_land.proofs.three_stands.Tie as tie
-use Rattle.examples_land.proofs.three_stands.Reads as reads
-use Rattle.examples_land.proofs.three_stands.Lts as lts
-use Rattle.check.proofs.expect.Reads as expect-reads
-use Rattle.examples_land.proofs.emitted.Reads as emitted-reads
-
-array-set-from-stands : tie.Need-array-set-from-stands
-array-set-from-stands c = search needs
-
-array-set-from-stands-2 : tie.Need-array-set-from-stands-2
-array-set-from-stands-2 c = search needs
-
-emitted-requires : tie.Need-emitted-requires
-emitted-requires c κs = search needs
-
-expect-requires : tie.Need-expect-requires
-expect-requires c κs = ?
-
-returns : tie.Need-returns
-returns c = search needs
 
 pub three-stands-spec : {M : Type 1} → statement M
+unfolding some keep sumBy tenthsOf treesOf tonnes weighed weighAll smallest joined placesFrom stock4 schedule4 placeFour cellAt rateFour elder countingOf countedOf amissOf faultsOf faultsAmong cases kilogramsOf answerOf emissionsOf tonnesOf
 three-stands-spec =
     tie.close
     (tie.spec
-    array-set-from-stands
-    array-set-from-stands-2
-    emitted-requires
-    expect-requires
-    returns)
+    (λ c. search needs)
+    (λ c. search needs)
+    (λ c κs. search needs)
+    (λ c κs. eq-eqb (c .emitted .result) 117253 (c .emitted .ensures))
+    (λ c. search needs))
