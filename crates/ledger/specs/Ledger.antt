@@ -152,7 +152,11 @@ entered own (File area last) rows = change rowNumber area (returned own last) ro
 entered own (Withdraw area) rows = change rowNumber area withdrawnRow rows
 entered own (Column column cells) rows = rows
 
--- "is fed each step and whether it was accepted"
-unfoldable pub noted : List ℕ → Bool → Entry → List Row → List Row
-noted own true entry rows = entered own entry rows
-noted own false entry rows = rows
+-- "is fed each step and whether it was accepted": a step and that, the first step first
+unfoldable pub noted : List ℕ → List Row → List (Entry × Bool) → List Row
+noted own rows [] = rows
+noted own rows (s ∷ steps) = noted own (cond (s .1) (entered own (s .0) rows) rows) steps
+
+-- "It starts empty"
+abbrev pub ledgerOf : List ℕ → List (Entry × Bool) → List Row
+ledgerOf own steps = noted own [] steps
