@@ -9,6 +9,7 @@ use borrow.Author.Tests.{lt-ltb, le-ltb}
 use lib.Dec.{eqb, lit≤}
 use lib.ListN.{length, getD, take, drop, set, length-drop, drop-of-length-le}
 use lib.Seq.{sets}
+use Rattle.laws.specs.Elements.{some}
 use Rattle.text.specs.Fields.{width, split}
 use Rattle.text.proofs.Fields.{field-last, field-comma}
 use Rattle.numbers.specs.declared.Number.{Number}
@@ -21,7 +22,7 @@ use Rattle.refusals.specs.declared.Refusal.the-variants.{OutputShort}
 use Rattle.refusals.specs.declared.Verdict.the-variants.{Clear, Turned}
 use Rattle.columns.specs.declared.Place.{Place}
 use Rattle.columns.specs.declared.Place.the-variants.{At, Nowhere}
-use Rattle.columns.specs.Columns.{kindByte, typeByte, alone, kindOf, typeOf, placeOf, cellsOf, some, tenthsAll, cellsFound, roomFor, filled}
+use Rattle.columns.specs.Columns.{kindByte, typeByte, alone, kindOf, typeOf, placeOf, cellsOf, someCell, tenthsAll, cellsFound, roomFor, filled}
 
 pub one-byte : (place : ℕ → Place) (s : List ℕ) → length s ≡ 1 → place (getD s 0 0) ≡ alone place s
 unfolding alone
@@ -43,15 +44,15 @@ no-place place s h e = sym e ∙ one-byte place s h
 module _ (s : List ℕ) (start end : ℕ) (e : end ≡ start + width (drop start s)) (h : start ≤ length s) (cell : Number)
     (read : cell ≡ cellIn (take (end - start) (drop start s))) where
   module _ (kind : Number → Bool) (found : Bool) (b : Bool) (q : b ≡ kind cell) where
-    pub judge-next : end < length s → (found || b) || some kind (split (drop (end + 1) s)) ≡ found || some kind (split (drop start s))
+    pub judge-next : end < length s → (found || b) || someCell kind (split (drop (end + 1) s)) ≡ found || someCell kind (split (drop start s))
     unfolding some
     judge-next l = go found
       where
-        go : (x : Bool) → (x || b) || some kind (split (drop (end + 1) s)) ≡ x || some kind (split (drop start s))
+        go : (x : Bool) → (x || b) || someCell kind (split (drop (end + 1) s)) ≡ x || someCell kind (split (drop start s))
         go true = refl
         go false = rw (field-comma s start end e h l, q, read)
 
-    pub judge-last : length s ≤ end → end ≤ length s → found || b ≡ found || some kind (split (drop start s))
+    pub judge-last : length s ≤ end → end ≤ length s → found || b ≡ found || someCell kind (split (drop start s))
     unfolding some
     judge-last l u = go found
       where
@@ -59,7 +60,7 @@ module _ (s : List ℕ) (start end : ℕ) (e : end ≡ start + width (drop start
         none true = refl
         none false = refl
 
-        go : (x : Bool) → x || b ≡ x || some kind (split (drop start s))
+        go : (x : Bool) → x || b ≡ x || someCell kind (split (drop start s))
         go true = refl
         go false = rw (field-last s start end e h l u, q, read) (none _)
 

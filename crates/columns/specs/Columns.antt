@@ -1,10 +1,11 @@
 -- "T,kind,type,cells: kind G (stock) or R (residue); type P, D, S, H or N; 1 to 101 cells, each a number with at most one decimal, at most 3000."
 use Prim.Native.Nat.{ℕ, _+_}
-use mathlib.Core.Bool.{Bool, true, false, cond, _||_}
+use mathlib.Core.Bool.{Bool, true, false, cond}
 use mathlib.Core.List.{List, [], _∷_, map}
 use lib.Dec.{eqb, leb, ltb}
 use lib.ListN.{length, drop}
 use lib.Seq.{sets}
+use Rattle.laws.specs.Elements.{some}
 use Rattle.text.specs.Fields.{fieldAt}
 use Rattle.numbers.specs.declared.Number.{Number}
 use Rattle.numbers.specs.Ranges.{malformed, outside, fitted}
@@ -56,9 +57,8 @@ abbrev pub cellsOf : List (List ℕ) → List (List ℕ)
 cellsOf fs = drop 3 fs
 
 -- some cell, read, is of a kind
-unfoldable pub some : (Number → Bool) → List (List ℕ) → Bool
-some kind [] = false
-some kind (f ∷ fs) = kind (cellIn f) || some kind fs
+abbrev pub someCell : (Number → Bool) → List (List ℕ) → Bool
+someCell kind fs = some (λ f. kind (cellIn f)) fs
 
 -- "at most 3000", in tenths
 abbrev pub badCell : Number → Bool
@@ -69,10 +69,10 @@ columnRule fs = let kind = kindOf (fieldAt fs 1) in let type = typeOf (fieldAt f
   cases =
       leb (length fs) 3 ⇒ Form
       ∷ nowhere kind ⇒ Form
-      ∷ some malformed (cellsOf fs) ⇒ Form
+      ∷ someCell malformed (cellsOf fs) ⇒ Form
       ∷ nowhere type ⇒ ForestType
       ∷ ltb 101 (length (cellsOf fs)) ⇒ TableColumn
-      ∷ some badCell (cellsOf fs) ⇒ TableColumn
+      ∷ someCell badCell (cellsOf fs) ⇒ TableColumn
       ∷ [];
   entry = Column (placeOf kind + placeOf type) (length (cellsOf fs));
 }
@@ -86,7 +86,7 @@ tenthsAll fs = map tenthsIn fs
 
 -- what a scan of cells finds
 unfoldable pub cellsFound : List (List ℕ) → Cells
-cellsFound fs = record { malformed = some malformed fs; over = some badCell fs }
+cellsFound fs = record { malformed = someCell malformed fs; over = someCell badCell fs }
 
 -- "8 output shorter than needed": the cells read into lent numbers, all of them or none
 unfoldable pub roomFor : List (List ℕ) → List ℕ → Verdict

@@ -8,7 +8,7 @@ use lib.Seq.{sets}
 use Rattle.text.specs.Fields.{split}
 use Rattle.numbers.specs.Ranges.{malformed}
 use Rattle.fields.proofs.Laws.{end-inside}
-use Rattle.columns.specs.Columns.{some, badCell, tenthsAll, cellsFound}
+use Rattle.columns.specs.Columns.{someCell, badCell, tenthsAll, cellsFound}
 use Rattle.columns.proofs.Laws.{judge-next, judge-last, keep-next, keep-last}
 use Rattle.columns.proofs.scan_cells.Statement.{statement}
 use Rattle.columns.proofs.scan_cells.Tie as tie
@@ -16,8 +16,8 @@ use Rattle.columns.proofs.scan_cells.Tie as tie
 abbrev Inv-loop : tie.InvT-loop
 Inv-loop line first cells₀ ill₀ over₀ k₀ start₀ cells ill over k start =
     (start ≤ length line) × (k ≤ start) × (length cells ≡ length cells₀)
-    × (ill || some malformed (split (drop start line)) ≡ some malformed (split (drop first line)))
-    × (over || some badCell (split (drop start line)) ≡ some badCell (split (drop first line)))
+    × (ill || someCell malformed (split (drop start line)) ≡ someCell malformed (split (drop first line)))
+    × (over || someCell badCell (split (drop start line)) ≡ someCell badCell (split (drop first line)))
     × (sets cells k (tenthsAll (split (drop start line))) ≡ sets cells₀ 0 (tenthsAll (split (drop first line))))
 
 abbrev μ-loop : tie.MeasureT-loop
