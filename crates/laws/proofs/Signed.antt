@@ -2,9 +2,10 @@
 -- Each operation has a law that says what it does to the two.
 use mathlib.Core.Path.{_≡_, refl, ap}
 use mathlib.Core.Bool.{Bool, true, false, not, cond}
-use Prim.Native.Nat.{ℕ, zero, suc, _+_, _*_, _-_, min}
+use Prim.Native.Nat.{ℕ, zero, suc, _+_, _*_, _-_, _≤_, min, max}
 use native.Mathlib.Omega.{arith}
-use lib.Dec.{T, ltb, ltb→lt, nltb→le}
+use lib.Dec.{T, ltb, leb→le, le→leb, ltb→lt, nleb→lt, nltb→le}
+use lib.Signed.{leZ, _≤ℤ_}
 use lib.IntN.{ℤ, pos, negsuc, _+ℤ_, _-ℤ_, _*ℤ_, negℤ, subℕ, natAbs}
 
 abbrev pub above : ℤ → ℕ
@@ -61,5 +62,34 @@ pub abs-read : (a : ℤ) → natAbs a ≡ above a + below a
 abs-read (pos n) = omega arith
 abs-read (negsuc n) = omega arith
 
+le-read : (a b : ℤ) → T (leZ a b) → above a + below b ≤ above b + below a
+le-read (pos m) (pos n) t = omega (arith, leb→le)
+le-read (pos m) (negsuc n) t = absurd t
+le-read (negsuc m) (pos n) t = omega arith
+le-read (negsuc m) (negsuc n) t = omega (arith, leb→le)
+
+nle-read : (a b : ℤ) → T (not (leZ a b)) → above b + below a ≤ above a + below b
+nle-read (pos m) (pos n) t = omega (arith, nleb→lt)
+nle-read (pos m) (negsuc n) t = omega arith
+nle-read (negsuc m) (pos n) t = absurd t
+nle-read (negsuc m) (negsuc n) t = omega (arith, nleb→lt)
+
+-- the lesser of two
+pub min-read : (a b : ℤ) → (above (cond (leZ a b) a b) ≡ min (above a) (above b)) × (below (cond (leZ a b) a b) ≡ max (below a) (below b))
+min-read a b =
+    by-cases (leZ a b) a b (λ z. (above z ≡ min (above a) (above b)) × (below z ≡ max (below a) (below b)))
+    (λ t. omega (arith, le-read a b t, one-side a, one-side b))
+    (λ t. omega (arith, nle-read a b t, one-side a, one-side b))
+
+-- the order of integers is one of naturals, either way
+pub ≤ℤ-read : (a b : ℤ) → a ≤ℤ b → above a + below b ≤ above b + below a
+≤ℤ-read a b h = le-read a b (h .le)
+
+pub ≤ℤ-same : (a b : ℤ) → above a + below b ≤ above b + below a → a ≤ℤ b
+≤ℤ-same (pos m) (pos n) h = record { le = le→leb m n (omega arith) }
+≤ℤ-same (pos m) (negsuc n) h = absurd (omega arith)
+≤ℤ-same (negsuc m) (pos n) h = record { le = tt }
+≤ℤ-same (negsuc m) (negsuc n) h = record { le = le→leb n m (omega arith) }
+
 -- `omega` over ℤ: each sum, difference or product in play is one more entry, as `omega (ints, diff-read a b)`
-pub ruleset ints = (arith, ℤ-same, ℤ-read)
+pub ruleset ints = (arith, ℤ-same, ℤ-read, ≤ℤ-same, ≤ℤ-read)

@@ -1,6 +1,6 @@
 -- Tests, sums and choices over a whole list, by its elements.
 use Prim.Native.Nat.{ℕ, _+_}
-use mathlib.Core.Bool.{Bool, false, cond, _&&_, _||_}
+use mathlib.Core.Bool.{Bool, true, false, cond, not, _&&_, _||_}
 use mathlib.Core.List.{List, [], _∷_}
 use lib.Dec.{eqb, ltb}
 
@@ -8,6 +8,16 @@ use lib.Dec.{eqb, ltb}
 unfoldable pub some : {A : Type 0} → (A → Bool) → List A → Bool
 some p [] = false
 some p (a ∷ l) = p a || some p l
+
+-- whether every element of a list passes a test
+unfoldable pub every : {A : Type 0} → (A → Bool) → List A → Bool
+every p [] = true
+every p (a ∷ l) = p a && every p l
+
+-- whether no two elements of a list bear the same number
+unfoldable pub distinct : {A : Type 0} → (A → ℕ) → List A → Bool
+distinct numberOf [] = true
+distinct numberOf (a ∷ l) = not (some (λ b. eqb (numberOf b) (numberOf a)) l) && distinct numberOf l
 
 -- the elements that pass a test
 unfoldable pub keep : {A : Type 0} → (A → Bool) → List A → List A

@@ -1,27 +1,18 @@
 // The carbon stock of a sub-area and of an area on 1 January of a year.
 ghost use mathlib.Core.Path.{_≡_};
-ghost use Prim.Native.Nat.{_-_, _*_, _≤_};
+ghost use Prim.Native.Nat.{_*_, _≤_};
 ghost use Rattle.stocks.specs.Stocks.{treesOn, residueOn, subStock, areaStock};
 use holding::Area;
 use holding::Sub;
 use schedules::Kind;
 use units::Kilograms;
 
-fn years_from(year: u16, later: u16) -> u16
-    ensures { λ r. ⌜ r ≡ later - year ⌝ }
-{
-    if later < year {
-        return 0;
-    }
-    later - year
-}
-
 fn trees_on<'a>(own: &'a [u16], default: &'a [u16], sub: Sub, year: u16) -> Kilograms
     ensures { λ r. ⌜ (r ≡ treesOn (now (own .entry)) (now (default .entry)) sub year) × (r .0 ≤ 4294967295 * 65535 * 10) ⌝ }
 {
     let land = sub.tenths;
     let forest = sub.forest;
-    let age = years_from(sub.planted, year);
+    let age = ranges::years_from(sub.planted, year);
     let rate = rates::rate_six(own, default, Kind::Stock, forest, age);
     land.trees(rate)
 }
@@ -32,7 +23,7 @@ fn residue_on<'a>(own: &'a [u16], default: &'a [u16], sub: Sub, year: u16) -> Ki
     let land = sub.tenths;
     let residue = sub.residue;
     let forest = residue.forest;
-    let share = rates::share(years_from(residue.year, year));
+    let share = rates::share(ranges::years_from(residue.year, year));
     let rate = rates::rate_six(own, default, Kind::Residue, forest, residue.age);
     land.residue(rate, share)
 }

@@ -1,0 +1,1 @@
+// S adds a sub-area.

@@ -1,0 +1,49 @@
+-- "C,area,sub,year clears".
+use Prim.Native.Nat.{ℕ, _-_}
+use mathlib.Core.Bool.{not, _&&_, _||_}
+use mathlib.Core.List.{List, [], _∷_, _++_}
+use lib.Dec.{ltb}
+use Rattle.refusals.specs.declared.Refusal.the-variants.{AreaOrSubNumber, YearRange, SubUnknown, ClearingBareLand, YearBefore}
+use Rattle.refusals.specs.Refusals.{Case, _⇒_, smallest}
+use Rattle.forest.specs.declared.Forest.the-variants.{Bare}
+use Rattle.ranges.specs.Ranges.{isBare, isArea, isSub, isYear}
+use Rattle.holding.specs.declared.Sub.{Sub}
+use Rattle.holding.specs.declared.Area.{Area}
+use Rattle.holding.specs.declared.Found.{Found}
+use Rattle.holding.specs.declared.Holding.{Holding}
+use Rattle.holding.specs.Find.{findArea, findSub}
+use Rattle.standing.specs.Standing.{known, areaAt, subAt, withSub}
+use Rattle.outcomes.specs.declared.Outcome.{Outcome}
+use Rattle.outcomes.specs.declared.Report.the-variants.{Nothing}
+use Rattle.outcomes.specs.Outcomes.{accepted, answered, areaCases}
+
+-- "28 sub unknown; 29 clearing bare land; .. 31 year before the open or latest year", of an area and a sub-area that were looked up
+unfoldable pub clearCases : ℕ → ℕ → ℕ → Found → Area → List Case
+clearCases number sub year found area =
+    let stand = findSub area sub in
+    not (isArea number && isSub sub) ⇒ AreaOrSubNumber
+    ∷ not (isYear year) ⇒ YearRange
+    ∷ (areaCases found area
+    ++ (not (known stand) ⇒ SubUnknown
+    ∷ isBare (subAt area stand .forest) ⇒ ClearingBareLand
+    ∷ (ltb year (area .«open_year») || ltb year (area .latest)) ⇒ YearBefore
+    ∷ []))
+
+-- the sub-area without its trees: "residue of the latest clearing"; "A new clearing replaces older residue."
+unfoldable pub clearedSub : Sub → ℕ → Sub
+clearedSub sub year = record {
+  number = sub .number;
+  tenths = sub .tenths;
+  forest = Bare;
+  planted = 0;
+  residue = record { forest = sub .forest; age = year - sub .planted; year = year };
+}
+
+unfoldable pub clearedArea : Area → ℕ → ℕ → Area
+clearedArea area sub year = let stand = findSub area sub in withSub area stand (clearedSub (subAt area stand) year) year
+
+unfoldable pub cleared : Holding → ℕ → ℕ → ℕ → Outcome
+cleared holding number sub year =
+    let found = findArea holding number in
+    let area = areaAt holding found in
+    answered (smallest (clearCases number sub year found area)) (accepted Nothing found (holding .count) (clearedArea area sub year))

@@ -1,0 +1,1 @@
+// C clears a sub-area: its trees become its residue.

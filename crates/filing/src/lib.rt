@@ -1,0 +1,1 @@
+// R files a return.

@@ -1,0 +1,1 @@
+// A opens an accounting area.

@@ -1,0 +1,45 @@
+-- "P,area,sub,type,year plants (type not B)".
+use Prim.Native.Nat.{ℕ}
+use mathlib.Core.Bool.{not, _&&_, _||_}
+use mathlib.Core.List.{List, [], _∷_, _++_}
+use lib.Dec.{ltb}
+use Rattle.refusals.specs.declared.Refusal.the-variants.{AreaOrSubNumber, ForestType, YearRange, SubUnknown, PlantingUnderTrees, YearBefore}
+use Rattle.refusals.specs.Refusals.{Case, _⇒_, smallest}
+use Rattle.forest.specs.declared.Forest.{Forest}
+use Rattle.ranges.specs.Ranges.{isBare, isArea, isSub, isYear}
+use Rattle.holding.specs.declared.Sub.{Sub}
+use Rattle.holding.specs.declared.Area.{Area}
+use Rattle.holding.specs.declared.Found.{Found}
+use Rattle.holding.specs.declared.Holding.{Holding}
+use Rattle.holding.specs.Find.{findArea, findSub}
+use Rattle.standing.specs.Standing.{known, areaAt, subAt, withSub}
+use Rattle.outcomes.specs.declared.Outcome.{Outcome}
+use Rattle.outcomes.specs.declared.Report.the-variants.{Nothing}
+use Rattle.outcomes.specs.Outcomes.{accepted, answered, areaCases}
+
+-- "28 sub unknown; .. 30 planting under trees; 31 year before the open or latest year", of an area that was looked up
+unfoldable pub plantCases : ℕ → ℕ → Forest → ℕ → Found → Area → List Case
+plantCases number sub forest year found area =
+    let stand = findSub area sub in
+    not (isArea number && isSub sub) ⇒ AreaOrSubNumber
+    ∷ isBare forest ⇒ ForestType
+    ∷ not (isYear year) ⇒ YearRange
+    ∷ (areaCases found area
+    ++ (not (known stand) ⇒ SubUnknown
+    ∷ not (isBare (subAt area stand .forest)) ⇒ PlantingUnderTrees
+    ∷ (ltb year (area .«open_year») || ltb year (area .latest)) ⇒ YearBefore
+    ∷ []))
+
+-- the sub-area with trees of that type and year
+unfoldable pub plantedSub : Sub → Forest → ℕ → Sub
+plantedSub sub forest year = record { number = sub .number; tenths = sub .tenths; forest = forest; planted = year; residue = sub .residue }
+
+unfoldable pub plantedArea : Area → ℕ → Forest → ℕ → Area
+plantedArea area sub forest year = let stand = findSub area sub in withSub area stand (plantedSub (subAt area stand) forest year) year
+
+unfoldable pub planted : Holding → ℕ → ℕ → Forest → ℕ → Outcome
+planted holding number sub forest year =
+    let found = findArea holding number in
+    let area = areaAt holding found in
+    answered (smallest (plantCases number sub forest year found area))
+    (accepted Nothing found (holding .count) (plantedArea area sub forest year))

@@ -1,0 +1,1 @@
+// P plants a sub-area.

@@ -1,0 +1,62 @@
+// What stands at a place that a search found, and an area with a sub-area put back.
+ghost use mathlib.Core.Path.{_≡_};
+ghost use Rattle.standing.specs.Standing.{known, areaAt, subAt, withSub};
+use holding::Area;
+use holding::Found;
+use holding::Holding;
+use holding::Sub;
+
+pub fn is_known(found: Found) -> bool
+    ensures { λ r. ⌜ r ≡ known found ⌝ }
+{
+    match found {
+        Found::At(_) => true,
+        Found::Nowhere => false,
+    }
+}
+
+// The area there, the empty one where none stands.
+pub fn area_at(holding: Holding, found: Found) -> Area
+    ensures { λ r. ⌜ r ≡ areaAt holding found ⌝ }
+{
+    match found {
+        Found::At(i) => {
+            if i < 16 {
+                return holding.areas[i];
+            }
+            holding::empty_area()
+        }
+        Found::Nowhere => holding::empty_area(),
+    }
+}
+
+pub fn sub_at(area: Area, found: Found) -> Sub
+    ensures { λ r. ⌜ r ≡ subAt area found ⌝ }
+{
+    match found {
+        Found::At(i) => {
+            if i < 16 {
+                return area.subs[i];
+            }
+            holding::empty_sub()
+        }
+        Found::Nowhere => holding::empty_sub(),
+    }
+}
+
+// The area with a sub-area put back at its place, after a clearing or planting in a year.
+pub fn with_sub(area: Area, found: Found, sub: Sub, year: u16) -> Area
+    ensures { λ r. ⌜ r ≡ withSub area found sub year ⌝ }
+{
+    let mut after = area;
+    after.latest = year;
+    match found {
+        Found::At(i) => {
+            if i < 16 {
+                after.subs[i] = sub;
+            }
+            after
+        }
+        Found::Nowhere => after,
+    }
+}

@@ -1,0 +1,52 @@
+-- A step of a holding, and a list of steps. `own` is the participant's table, `default` the cells of Schedule 6 as they are lent.
+use Prim.Native.Nat.{ℕ}
+use mathlib.Core.Bool.{Bool, true, false, cond}
+use mathlib.Core.List.{List, [], _∷_}
+use lib.Dec.{leb}
+use Rattle.refusals.specs.declared.Refusal.the-variants.{TableColumn, TableAfterArea}
+use Rattle.refusals.specs.declared.Verdict.{Verdict}
+use Rattle.refusals.specs.declared.Verdict.the-variants.{Clear as Accepted, Turned}
+use Rattle.refusals.specs.Refusals.{_⇒_, smallest}
+use Rattle.schedules.specs.Schedules.{schedule6}
+use Rattle.tables.specs.Participant.{isTable}
+use Rattle.entries.specs.declared.Entry.{Entry}
+use Rattle.entries.specs.declared.Entry.the-variants.{Open, Add, Clear, Plant, File, Withdraw, Column}
+use Rattle.holding.specs.declared.Holding.{Holding}
+use Rattle.holding.specs.declared.Found.the-variants.{Nowhere}
+use Rattle.holding.specs.Holding.{emptyArea, emptyHolding}
+use Rattle.outcomes.specs.declared.Outcome.{Outcome}
+use Rattle.outcomes.specs.declared.Report.the-variants.{Nothing}
+use Rattle.outcomes.specs.Outcomes.{accepted, answered, turnedBack, placed}
+use Rattle.opening.specs.Opening.{opened}
+use Rattle.adding.specs.Adding.{newSub, added}
+use Rattle.clearing.specs.Clearing.{cleared}
+use Rattle.planting.specs.Planting.{planted}
+use Rattle.filing.specs.Filing.{filed}
+use Rattle.withdrawing.specs.Withdrawing.{withdrawn}
+
+-- "33 T once an area stands": T extends the table, and changes nothing in the holding
+unfoldable pub columnTaken : Holding → Outcome
+columnTaken holding = answered (smallest (leb 1 (holding .count) ⇒ TableAfterArea ∷ [])) (accepted Nothing Nowhere (holding .count) emptyArea)
+
+unfoldable pub applied : List ℕ → List ℕ → Holding → Entry → Outcome
+applied own default holding (Open area opening) = opened holding area opening
+applied own default holding (Add area sub land forest year) = added own default holding area (newSub sub land forest year)
+applied own default holding (Clear area sub year) = cleared holding area sub year
+applied own default holding (Plant area sub forest year) = planted holding area sub forest year
+applied own default holding (File area last) = filed own default holding area last
+applied own default holding (Withdraw area) = withdrawn holding area
+applied own default holding (Column column cells) = columnTaken holding
+
+-- a step under a participant's table, which refuses every step if it is itself refused; the empty list is no table
+unfoldable pub stepped : List ℕ → Holding → Entry → Outcome
+stepped own holding entry = cond (isTable own) (applied own schedule6 holding entry) (turnedBack TableColumn)
+
+-- "Each step gets the holding that the last one left"
+unfoldable pub holdingFrom : List ℕ → Holding → List Entry → Holding
+holdingFrom own holding [] = holding
+holdingFrom own holding (e ∷ es) = holdingFrom own (placed holding (stepped own holding e)) es
+
+-- what each step answered, the first first
+unfoldable pub outcomesFrom : List ℕ → Holding → List Entry → List Outcome
+outcomesFrom own holding [] = []
+outcomesFrom own holding (e ∷ es) = stepped own holding e ∷ outcomesFrom own (placed holding (stepped own holding e)) es

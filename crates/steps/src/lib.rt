@@ -1,0 +1,1 @@
+// A step of a holding: any entry, by its letter.

@@ -1,0 +1,41 @@
+-- "W,area: withdraws the area."
+use Prim.Native.Nat.{ℕ, _+_, _-_}
+use mathlib.Core.Bool.{true, not}
+use mathlib.Core.List.{List, [], _∷_}
+use Rattle.refusals.specs.declared.Refusal.the-variants.{AreaOrSubNumber}
+use Rattle.refusals.specs.Refusals.{Case, _⇒_, smallest}
+use Rattle.ranges.specs.Ranges.{isArea}
+use Rattle.holding.specs.declared.Area.{Area}
+use Rattle.holding.specs.declared.Found.{Found}
+use Rattle.holding.specs.declared.Holding.{Holding}
+use Rattle.holding.specs.Find.{findArea}
+use Rattle.standing.specs.Standing.{areaAt, balanceOf}
+use Rattle.outcomes.specs.declared.Outcome.{Outcome}
+use Rattle.outcomes.specs.declared.Report.the-variants.{Withdrawal}
+use Rattle.outcomes.specs.Outcomes.{accepted, answered, areaCases}
+
+unfoldable pub withdrawCases : ℕ → Found → Area → List Case
+withdrawCases number found area = not (isArea number) ⇒ AreaOrSubNumber ∷ areaCases found area
+
+-- "W makes the whole balance due."
+unfoldable pub withdrawnArea : Area → Area
+withdrawnArea area = record {
+  number = area .number;
+  opening = area .opening;
+  «open_year» = area .«open_year»;
+  latest = area .latest;
+  withdrawn = true;
+  returns = area .returns;
+  stock = area .stock;
+  received = area .received;
+  surrendered = area .surrendered + balanceOf area;
+  count = area .count;
+  subs = area .subs;
+}
+
+unfoldable pub withdrawn : Holding → ℕ → Outcome
+withdrawn holding number =
+    let found = findArea holding number in
+    let area = areaAt holding found in
+    answered (smallest (withdrawCases number found area))
+    (accepted (Withdrawal number (balanceOf area)) found (holding .count) (withdrawnArea area))

@@ -1,0 +1,1 @@
+// W withdraws an area.
