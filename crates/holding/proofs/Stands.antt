@@ -1,0 +1,55 @@
+-- What a search found stands in the list and bears the number; where it found nothing, nothing bears it; and it looks at numbers alone.
+use Prim.Native.Nat.{ℕ, zero, suc, _+_, _-_, _<_, _≤_}
+use mathlib.Core.Bool.{Bool, true, false, cond, _||_}
+use mathlib.Core.Path.{_≡_, refl, sym, ap, _∙_}
+use mathlib.Core.List.{List, [], _∷_, map}
+use native.Mathlib.Omega.{arith}
+use borrow.Author.Tests.{eqb-true}
+use lib.Dec.{eqb}
+use lib.ListN.{length, getD, set}
+use Rattle.laws.specs.Elements.{some}
+use Rattle.holding.specs.declared.Found.{Found}
+use Rattle.holding.specs.declared.Found.the-variants.{At, Nowhere}
+use Rattle.holding.specs.Find.{placeFrom}
+
+abbrev place : Found → ℕ
+place (At i) = i
+place Nowhere = 0
+
+-- a search that begins at j finds the place j + k of the k-th
+pub record StandsAt {A : Type 0} (numberOf : A → ℕ) (n j i : ℕ) (l : List A) : Type 0 where
+  pub k : ℕ
+  pub there : i ≡ j + k
+  pub inside : k < length l
+  pub bears : (d : A) → numberOf (getD l k d) ≡ n
+
+module _ {A : Type 0} (numberOf : A → ℕ) (n : ℕ) where
+  pub stands : (j i : ℕ) (l : List A) → placeFrom numberOf n j l ≡ At i → StandsAt numberOf n j i l
+  unfolding placeFrom
+  stands j i [] e = let z : _≡_ {A = ℕ} 0 1 = cc in absurd (omega arith)
+  stands j i (a ∷ l) e = go (eqb (numberOf a) n) refl e (stands (j + 1) i l)
+    where
+      later : StandsAt numberOf n (j + 1) i l → StandsAt numberOf n j i (a ∷ l)
+      later s = record { k = suc (s .k); there = omega (arith, s .there); inside = omega (arith, s .inside); bears = s .bears }
+
+      go : (t : Bool) → eqb (numberOf a) n ≡ t → cond t (At j) (placeFrom numberOf n (j + 1) l) ≡ At i
+          → (placeFrom numberOf n (j + 1) l ≡ At i → StandsAt numberOf n (j + 1) i l) → StandsAt numberOf n j i (a ∷ l)
+      go true t e rest = record { k = 0; there = let q : i ≡ j = ap place (sym e) in omega arith; inside = omega arith; bears = λ d. eqb-true (numberOf a) n t }
+      go false t e rest = later (rest e)
+
+  pub stands-nowhere : (j : ℕ) (l : List A) → placeFrom numberOf n j l ≡ Nowhere → some (λ a. eqb (numberOf a) n) l ≡ false
+  unfolding placeFrom some
+  stands-nowhere j [] e = refl
+  stands-nowhere j (a ∷ l) e = go (eqb (numberOf a) n) e (stands-nowhere (j + 1) l)
+    where
+      go : (t : Bool) → cond t (At j) (placeFrom numberOf n (j + 1) l) ≡ Nowhere
+          → (placeFrom numberOf n (j + 1) l ≡ Nowhere → some (λ a. eqb (numberOf a) n) l ≡ false)
+          → (t || some (λ a. eqb (numberOf a) n) l) ≡ false
+      go true e rest = let z : _≡_ {A = ℕ} 0 1 = cc in absurd (omega arith)
+      go false e rest = rest e
+
+-- the search of a list is that of its numbers
+pub place-of-numbers : {A : Type 0} (numberOf : A → ℕ) (n j : ℕ) (l : List A) → placeFrom numberOf n j l ≡ placeFrom (λ k. k) n j (map numberOf l)
+unfolding placeFrom
+place-of-numbers numberOf n j [] = refl
+place-of-numbers numberOf n j (a ∷ l) = ap (cond (eqb (numberOf a) n) (At j)) (place-of-numbers numberOf n (j + 1) l)
