@@ -1,1 +1,68 @@
 // C clears a sub-area: its trees become its residue.
+ghost use mathlib.Core.Path.{_≡_};
+ghost use Rattle.refusals.specs.Refusals.{smallest};
+ghost use Rattle.clearing.specs.Clearing.{clearCases, clearedSub, clearedArea, cleared};
+use forest::Forest;
+use holding::Area;
+use holding::Found;
+use holding::Holding;
+use holding::Residue;
+use holding::Sub;
+use outcomes::Outcome;
+use outcomes::Report;
+use refusals::Refusal;
+use refusals::Verdict;
+
+fn verdict(number: u16, sub: u8, year: u16, found: Found, area: Area) -> Verdict
+    ensures { λ r. ⌜ r ≡ smallest (clearCases number sub year found area) ⌝ }
+{
+    let stand = holding::find_sub(area, sub);
+    let forest = standing::sub_at(area, stand).forest;
+    let v = refusals::weigh(Verdict::Clear, !(ranges::is_area(number) & ranges::is_sub(sub)), Refusal::AreaOrSubNumber);
+    let v = refusals::weigh(v, !ranges::is_year(year), Refusal::YearRange);
+    let v = outcomes::weigh_area(v, found, area);
+    let v = refusals::weigh(v, !standing::is_known(stand), Refusal::SubUnknown);
+    let v = refusals::weigh(v, ranges::is_bare(forest), Refusal::ClearingBareLand);
+    refusals::weigh(v, (year < area.open_year) | (year < area.latest), Refusal::YearBefore)
+}
+
+fn cleared_sub(sub: Sub, year: u16) -> Sub
+    ensures { λ r. ⌜ r ≡ clearedSub sub year ⌝ }
+{
+    let tenths = sub.tenths;
+    let forest = sub.forest;
+    let age = ranges::years_from(sub.planted, year);
+    Sub {
+        number: sub.number,
+        tenths,
+        forest: Forest::Bare,
+        planted: 0,
+        residue: Residue { forest, age, year },
+    }
+}
+
+fn cleared_area(area: Area, sub: u8, year: u16) -> Area
+    ensures { λ r. ⌜ r ≡ clearedArea area sub year ⌝ }
+{
+    let stand = holding::find_sub(area, sub);
+    let before = standing::sub_at(area, stand);
+    standing::with_sub(area, stand, cleared_sub(before, year), year)
+}
+
+pub fn clear(holding: Holding, number: u16, sub: u8, year: u16) -> Outcome
+    ensures { λ r. ⌜ r ≡ cleared holding number sub year ⌝ }
+{
+    let found = holding::find_area(holding, number);
+    let area = standing::area_at(holding, found);
+    let v = verdict(number, sub, year, found, area);
+    match v {
+        Verdict::Turned(refusal) => outcomes::turned(refusal),
+        Verdict::Clear => Outcome {
+            verdict: Verdict::Clear,
+            report: Report::Nothing,
+            place: found,
+            count: holding.count,
+            area: cleared_area(area, sub, year),
+        },
+    }
+}
