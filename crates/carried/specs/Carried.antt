@@ -1,8 +1,10 @@
 -- What a holding keeps so that a statement carries it: "A reader accepts it exactly when .." of document 01.
 use Prim.Native.Nat.{ℕ, _+_, _*_, max}
-use mathlib.Core.Bool.{Bool, not, _&&_, _||_, Bool·beq}
+use mathlib.Core.Bool.{Bool, not, cond, _||_, Bool·beq}
+use mathlib.Core.List.{[], _∷_}
 use lib.Dec.{eqb, leb}
 use Rattle.laws.specs.Elements.{every, distinct}
+use Rattle.laws.specs.Tests.{allOf}
 use Rattle.ranges.specs.Ranges.{lastYear, isBare, isArea, isSub, isYear, isLand, isPlanted}
 use Rattle.holding.specs.declared.Residue.{Residue}
 use Rattle.holding.specs.declared.Sub.{Sub}
@@ -22,43 +24,56 @@ receivedForReturn = 1000000000
 -- returns are at most open year less opening"
 unfoldable pub yearsCarried : Area → Bool
 yearsCarried area =
-    isYear (area .opening)
-    && (eqb (area .latest) 0 || isYear (area .latest))
-    && leb (area .«open_year») (lastYear + 1)
-    && leb (area .opening) (area .«open_year»)
-    && Bool·beq (eqb (area .«open_year») (area .opening)) (eqb (area .returns) 0)
-    && leb (area .returns + area .opening) (area .«open_year»)
+    allOf
+    (isYear (area .opening)
+    ∷ (eqb (area .latest) 0 || isYear (area .latest))
+    ∷ leb (area .«open_year») (lastYear + 1)
+    ∷ leb (area .opening) (area .«open_year»)
+    ∷ Bool·beq (eqb (area .«open_year») (area .opening)) (eqb (area .returns) 0)
+    ∷ leb (area .returns + area .opening) (area .«open_year»)
+    ∷ [])
 
 -- "stock is at most 6×10^10 for each sub; received is at most 10^9 for each return; surrendered is at most received (equal if withdrawn)"
 unfoldable pub amountsCarried : Area → Bool
 amountsCarried area =
-    leb (area .stock .0) (stockForSub * area .count)
-    && leb (area .received) (receivedForReturn * area .returns)
-    && leb (area .surrendered) (area .received)
-    && (not (area .withdrawn) || eqb (area .surrendered) (area .received))
+    allOf
+    (leb (area .stock .0) (stockForSub * area .count)
+    ∷ leb (area .received) (receivedForReturn * area .returns)
+    ∷ leb (area .surrendered) (area .received)
+    ∷ (not (area .withdrawn) || eqb (area .surrendered) (area .received))
+    ∷ [])
 
 -- an area's own fields
 unfoldable pub fieldsCarried : Area → Bool
-fieldsCarried area = leb (area .count) mostSubs && (isArea (area .number) && yearsCarried area && amountsCarried area)
+fieldsCarried area = allOf (leb (area .count) mostSubs ∷ isArea (area .number) ∷ yearsCarried area ∷ amountsCarried area ∷ [])
 
 -- "no residue B,0,0"; "a residue's type isn't B, its year lies from opening to latest year, its age is at most 299"
 unfoldable pub residueCarried : Area → Residue → Bool
 residueCarried area residue =
-    (isBare (residue .forest) && (eqb (residue .age) 0 && eqb (residue .year) 0))
-    || (not (isBare (residue .forest)) && (leb (area .opening) (residue .year) && leb (residue .year) (area .latest) && leb (residue .age) 299))
+    cond (isBare (residue .forest))
+    (allOf (eqb (residue .age) 0 ∷ eqb (residue .year) 0 ∷ []))
+    (allOf (leb (area .opening) (residue .year) ∷ leb (residue .year) (area .latest) ∷ leb (residue .age) 299 ∷ []))
 
 -- "planted is at most the greater of opening and latest year; tenths are 10 to 100000"
 unfoldable pub subCarried : Area → Sub → Bool
 subCarried area sub =
-    isSub (sub .number)
-    && isLand (sub .tenths)
-    && isPlanted (sub .forest) (sub .planted)
-    && leb (sub .planted) (max (area .opening) (area .latest))
-    && residueCarried area (sub .residue)
+    allOf
+    (isSub (sub .number)
+    ∷ isLand (sub .tenths)
+    ∷ isPlanted (sub .forest) (sub .planted)
+    ∷ leb (sub .planted) (max (area .opening) (area .latest))
+    ∷ residueCarried area (sub .residue)
+    ∷ [])
 
 -- an area whole; "numbers are distinct"
 unfoldable pub areaCarried : Area → Bool
-areaCarried area = fieldsCarried area && every (subCarried area) (subsOf area) && distinct (λ (sub : Sub). sub .number) (subsOf area)
+areaCarried area =
+    allOf (fieldsCarried area ∷ every (subCarried area) (subsOf area) ∷ distinct (λ (sub : Sub). sub .number) (subsOf area) ∷ [])
 
 unfoldable pub carried : Holding → Bool
-carried holding = leb (holding .count) mostAreas && every areaCarried (areasOf holding) && distinct (λ (area : Area). area .number) (areasOf holding)
+carried holding =
+    allOf
+    (leb (holding .count) mostAreas
+    ∷ every areaCarried (areasOf holding)
+    ∷ distinct (λ (area : Area). area .number) (areasOf holding)
+    ∷ [])

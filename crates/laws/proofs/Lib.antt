@@ -5,4 +5,5 @@ pub mod Order
 pub mod Signed
 pub mod Standing
 pub mod Stores
+pub mod Tests
 pub mod Turns

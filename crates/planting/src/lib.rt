@@ -1,1 +1,67 @@
-// P plants a sub-area.
+// P plants a sub-area that has no trees.
+ghost use mathlib.Core.Path.{_≡_};
+ghost use Rattle.refusals.specs.Refusals.{smallest};
+ghost use Rattle.planting.specs.Planting.{plantCases, plantedSub, plantedArea, planted};
+use forest::Forest;
+use holding::Area;
+use holding::Found;
+use holding::Holding;
+use holding::Sub;
+use outcomes::Outcome;
+use outcomes::Report;
+use refusals::Refusal;
+use refusals::Verdict;
+
+fn verdict(number: u16, sub: u8, forest: Forest, year: u16, found: Found, area: Area) -> Verdict
+    ensures { λ r. ⌜ r ≡ smallest (plantCases number sub forest year found area) ⌝ }
+{
+    let stand = holding::find_sub(area, sub);
+    let standing = standing::sub_at(area, stand).forest;
+    let v = refusals::weigh(Verdict::Clear, !(ranges::is_area(number) & ranges::is_sub(sub)), Refusal::AreaOrSubNumber);
+    let v = refusals::weigh(v, ranges::is_bare(forest), Refusal::ForestType);
+    let v = refusals::weigh(v, !ranges::is_year(year), Refusal::YearRange);
+    let v = outcomes::weigh_area(v, found, area);
+    let v = refusals::weigh(v, !standing::is_known(stand), Refusal::SubUnknown);
+    let v = refusals::weigh(v, !ranges::is_bare(standing), Refusal::PlantingUnderTrees);
+    refusals::weigh(v, (year < area.open_year) | (year < area.latest), Refusal::YearBefore)
+}
+
+fn planted_sub(sub: Sub, forest: Forest, year: u16) -> Sub
+    ensures { λ r. ⌜ r ≡ plantedSub sub forest year ⌝ }
+{
+    let tenths = sub.tenths;
+    let residue = sub.residue;
+    Sub {
+        number: sub.number,
+        tenths,
+        forest,
+        planted: year,
+        residue,
+    }
+}
+
+fn planted_area(area: Area, sub: u8, forest: Forest, year: u16) -> Area
+    ensures { λ r. ⌜ r ≡ plantedArea area sub forest year ⌝ }
+{
+    let stand = holding::find_sub(area, sub);
+    let before = standing::sub_at(area, stand);
+    standing::with_sub(area, stand, planted_sub(before, forest, year), year)
+}
+
+pub fn plant(holding: Holding, number: u16, sub: u8, forest: Forest, year: u16) -> Outcome
+    ensures { λ r. ⌜ r ≡ planted holding number sub forest year ⌝ }
+{
+    let found = holding::find_area(holding, number);
+    let area = standing::area_at(holding, found);
+    let v = verdict(number, sub, forest, year, found, area);
+    match v {
+        Verdict::Turned(refusal) => outcomes::turned(refusal),
+        Verdict::Clear => Outcome {
+            verdict: Verdict::Clear,
+            report: Report::Nothing,
+            place: found,
+            count: holding.count,
+            area: planted_area(area, sub, forest, year),
+        },
+    }
+}

@@ -1,7 +1,7 @@
 -- What a clear verdict says: it was clear before the last case, and that case did not apply; so none of a table applies.
 use mathlib.Core.Bool.{Bool, true, false}
 use mathlib.Core.Path.{_≡_, refl}
-use mathlib.Core.List.{List, [], _∷_}
+use mathlib.Core.List.{List, [], _∷_, _++_}
 use Rattle.refusals.specs.declared.Refusal.{Refusal}
 use Rattle.refusals.specs.declared.Verdict.{Verdict}
 use Rattle.refusals.specs.declared.Verdict.the-variants.{Clear, Turned}
@@ -34,3 +34,9 @@ clear-throughout v (c ∷ cs) e =
 pub none-applies : (cs : List Case) → smallest cs ≡ Clear → NoneApplies cs
 unfolding smallest
 none-applies cs e = clear-throughout Clear cs e .1
+
+-- of a table in two parts neither applies
+pub none-parts : (cs ds : List Case) → NoneApplies (cs ++ ds) → NoneApplies cs × NoneApplies ds
+unfolding NoneApplies
+none-parts [] ds n = (tt, n)
+none-parts (c ∷ cs) ds n = let rest = none-parts cs ds (n .1) in ((n .0, rest .0), rest .1)

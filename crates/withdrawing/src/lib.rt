@@ -1,1 +1,42 @@
-// W withdraws an area.
+// W withdraws an area: its whole balance is due.
+ghost use mathlib.Core.Path.{_≡_};
+ghost use Rattle.refusals.specs.Refusals.{smallest};
+ghost use Rattle.withdrawing.specs.Withdrawing.{withdrawCases, withdrawn};
+use holding::Area;
+use holding::Found;
+use holding::Holding;
+use outcomes::Outcome;
+use outcomes::Report;
+use refusals::Refusal;
+use refusals::Verdict;
+
+fn verdict(number: u16, found: Found, area: Area) -> Verdict
+    ensures { λ r. ⌜ r ≡ smallest (withdrawCases number found area) ⌝ }
+{
+    let v = refusals::weigh(Verdict::Clear, !ranges::is_area(number), Refusal::AreaOrSubNumber);
+    outcomes::weigh_area(v, found, area)
+}
+
+pub fn withdraw(holding: Holding, number: u16) -> Outcome
+    ensures { λ r. ⌜ r ≡ withdrawn holding number ⌝ }
+{
+    let found = holding::find_area(holding, number);
+    let area = standing::area_at(holding, found);
+    let v = verdict(number, found, area);
+    match v {
+        Verdict::Turned(refusal) => outcomes::turned(refusal),
+        Verdict::Clear => {
+            let due = area.received - area.surrendered;
+            let mut after = area;
+            after.withdrawn = true;
+            after.surrendered = area.surrendered + due;
+            Outcome {
+                verdict: Verdict::Clear,
+                report: Report::Withdrawal { area: number, due },
+                place: found,
+                count: holding.count,
+                area: after,
+            }
+        }
+    }
+}

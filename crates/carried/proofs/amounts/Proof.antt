@@ -1,12 +1,13 @@
 -- `carried::amounts` meets its contract, which joins the same tests; sixteen sub-areas keep the product small.
 use mathlib.Core.Path.{refl}
+use Rattle.laws.specs.Tests.{allOf}
 use Rattle.carried.specs.Carried.{amountsCarried}
 use borrow.Author.Needs.{needs}
 use Rattle.carried.proofs.amounts.Statement.{statement}
 use Rattle.carried.proofs.amounts.Tie as tie
 
 returns : tie.Need-returns
-unfolding amountsCarried
+unfolding amountsCarried allOf
 returns c = refl
 
 pub amounts-spec : {M : Type 1} → statement M

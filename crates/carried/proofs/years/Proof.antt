@@ -1,11 +1,12 @@
 -- `carried::years` meets its contract, which joins the same tests.
+use Rattle.laws.specs.Tests.{allOf}
 use Rattle.carried.specs.Carried.{yearsCarried}
 use borrow.Author.Needs.{needs}
 use Rattle.carried.proofs.years.Statement.{statement}
 use Rattle.carried.proofs.years.Tie as tie
 
 returns : tie.Need-returns
-unfolding yearsCarried
+unfolding yearsCarried allOf
 returns c = simp (c .is-year2 .ensures, c .before .is-year .ensures)
 
 pub years-spec : {M : Type 1} → statement M
