@@ -1,1 +1,64 @@
-// S adds a sub-area.
+// S adds a sub-area. Both tables are lent: the participant's, and the cells of Schedule 6.
+ghost use mathlib.Core.Path.{_≡_};
+ghost use Prim.Native.Nat.{_<_, _*_, _≤_};
+ghost use Rattle.refusals.specs.Refusals.{smallest};
+ghost use Rattle.holding.specs.Holding.{mostSubs};
+ghost use Rattle.adding.specs.Adding.{addCases, addedArea, added};
+use holding::Area;
+use holding::Found;
+use holding::Holding;
+use holding::Sub;
+use outcomes::Outcome;
+use outcomes::Report;
+use refusals::Refusal;
+use refusals::Verdict;
+use units::Kilograms;
+
+fn verdict(number: u16, sub: Sub, found: Found, area: Area) -> Verdict
+    ensures { λ r. ⌜ r ≡ smallest (addCases number sub found area) ⌝ }
+{
+    let land = sub.tenths;
+    let forest = sub.forest;
+    let used = standing::is_known(holding::find_sub(area, sub.number));
+    let v = refusals::weigh(Verdict::Clear, !(ranges::is_area(number) & ranges::is_sub(sub.number)), Refusal::AreaOrSubNumber);
+    let v = refusals::weigh(v, !ranges::is_land(land), Refusal::Hectares);
+    let v = refusals::weigh(v, !ranges::is_planted(forest, sub.planted), Refusal::YearRange);
+    let v = outcomes::weigh_area(v, found, area);
+    let v = refusals::weigh(v, used, Refusal::SubUsed);
+    let v = refusals::weigh(v, 16 <= area.count, Refusal::SubsFull);
+    let v = refusals::weigh(v, area.returns != 0, Refusal::AreaFiled);
+    refusals::weigh(v, area.opening < sub.planted, Refusal::PlantedAfterOpening)
+}
+
+fn added_area<'a>(own: &'a [u16], default: &'a [u16], area: Area, sub: Sub) -> Area
+    requires { ⌜ (area .count < mostSubs) × (area .stock .0 ≤ 60000000000 * mostSubs) ⌝ }
+    ensures { λ r. ⌜ r ≡ addedArea (now (own .entry)) (now (default .entry)) area sub ⌝ }
+{
+    let count = area.count;
+    let stock = area.stock;
+    let more = stocks::sub_stock(own, default, sub, area.opening);
+    let sum = Kilograms(stock.0 + more.0);
+    let mut after = area;
+    after.stock = sum;
+    after.count = count + 1;
+    after.subs[count] = sub;
+    after
+}
+
+pub fn add<'a>(own: &'a [u16], default: &'a [u16], holding: Holding, number: u16, sub: Sub) -> Outcome
+    ensures { λ r. ⌜ r ≡ added (now (own .entry)) (now (default .entry)) holding number sub ⌝ }
+{
+    let found = holding::find_area(holding, number);
+    let area = standing::area_at(holding, found);
+    let v = verdict(number, sub, found, area);
+    match v {
+        Verdict::Turned(refusal) => outcomes::turned(refusal),
+        Verdict::Clear => Outcome {
+            verdict: Verdict::Clear,
+            report: Report::Nothing,
+            place: found,
+            count: holding.count,
+            area: added_area(own, default, area, sub),
+        },
+    }
+}

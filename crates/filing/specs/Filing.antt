@@ -19,6 +19,7 @@ use Rattle.outcomes.specs.declared.Report.the-variants.{Return}
 use Rattle.outcomes.specs.declared.Outcome.{Outcome}
 use Rattle.outcomes.specs.Outcomes.{accepted, answered, areaCases}
 use Rattle.stocks.specs.Stocks.{areaStock}
+use Rattle.filing.specs.declared.Settled.{Settled}
 
 -- "31 year before the open or latest year", of an area that was looked up
 unfoldable pub fileCases : ℕ → ℕ → Found → Area → List Case
@@ -64,6 +65,9 @@ unfoldable pub returnOf : List ℕ → List ℕ → Area → ℕ → ℕ → Rep
 returnOf own default area number last =
     let change = changeOf own default area last in
     Return number (area .«open_year») last change (receivedOf change) (dueOf change (balanceOf area)) (balanceOf (filedArea own default area last))
+
+abbrev pub settledOf : List ℕ → List ℕ → Area → ℕ → ℕ → Settled
+settledOf own default area number last = record { report = returnOf own default area number last; area = filedArea own default area last }
 
 unfoldable pub filed : List ℕ → List ℕ → Holding → ℕ → ℕ → Outcome
 filed own default holding number last =
