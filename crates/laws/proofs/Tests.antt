@@ -3,14 +3,11 @@ use mathlib.Core.Bool.{Bool, true, false, _&&_}
 use mathlib.Core.Path.{_≡_, refl}
 use mathlib.Core.List.{List, [], _∷_, foldl}
 use Rattle.laws.specs.Tests.{allOf}
+use Rattle.laws.proofs.Lists.{and-left, and-right}
 
 unfoldable pub AllTrue : List Bool → Type 0
 AllTrue [] = Unit
 AllTrue (b ∷ bs) = (b ≡ true) × AllTrue bs
-
-pub both : (a b : Bool) → (a && b) ≡ true → (a ≡ true) × (b ≡ true)
-both true b e = (refl, e)
-both false b e = (e, cc)
 
 pub all-true : (bs : List Bool) → allOf bs ≡ true → AllTrue bs
 unfolding allOf AllTrue
@@ -19,7 +16,7 @@ all-true (b ∷ bs) e = go b bs e
   where
     go : (b : Bool) (bs : List Bool) → foldl _&&_ b bs ≡ true → (b ≡ true) × AllTrue bs
     go b [] e = (e, tt)
-    go b (c ∷ cs) e = let rest = go (b && c) cs e in let first = both b c (rest .0) in (first .0, (first .1, rest .1))
+    go b (c ∷ cs) e = let rest = go (b && c) cs e in (and-left b c (rest .0), (and-right b c (rest .0), rest .1))
 
 pub true-all : (bs : List Bool) → AllTrue bs → allOf bs ≡ true
 unfolding allOf AllTrue

@@ -1,0 +1,12 @@
+pub mod Keyed
+pub mod Running
+pub mod Units
+pub mod Alike
+pub mod Agreed
+pub mod Entries
+pub mod Changes
+pub mod DemandThree
+pub mod Refused
+pub mod Distinct
+pub mod Rows
+pub mod Examples

@@ -1,0 +1,4 @@
+pub mod Reports
+pub mod Running
+pub mod Feeding
+pub mod DemandThree

@@ -1,0 +1,1 @@
+// Demand 3: what the engine reports, against the plain ledger. No code.

@@ -1,0 +1,89 @@
+-- A property of each element, read at a place and kept by a store or by one element more; the test `every` is such a property; and `distinct`,
+-- which looks at numbers alone, is kept where they stay or where one comes that none bears.
+use Prim.Native.Nat.{ℕ, zero, suc, _<_}
+use mathlib.Core.Bool.{Bool, true, false, not, _||_}
+use mathlib.Core.Path.{_≡_, refl, sym, ap, _∙_}
+use mathlib.Core.List.{List, [], _∷_, _++_, map}
+use native.Mathlib.Omega.{arith}
+use lib.Dec.{eqb}
+use lib.ListN.{length, getD, set}
+use borrow.Author.Tests.{eqb-false, ne-eqb, not-true}
+use Rattle.laws.specs.Elements.{some, every, distinct}
+use Rattle.laws.proofs.Elements.{or-false-left, or-false-right}
+use Rattle.laws.proofs.Lists.{and-left, and-right}
+use Rattle.keeping.specs.Tidy.{Each}
+use Rattle.keeping.proofs.Tests.{both, neither}
+
+module _ {A : Type 0} (P : A → Type 0) where
+  pub each-at : (l : List A) (i : ℕ) (d : A) → i < length l → Each P l → P (getD l i d)
+  unfolding Each
+  each-at [] i d h p = absurd (omega arith)
+  each-at (x ∷ l) zero d h p = p .0
+  each-at (x ∷ l) (suc i) d h p = each-at l i d (omega arith) (p .1)
+
+  pub each-set : (l : List A) (i : ℕ) (a : A) → P a → Each P l → Each P (set l i a)
+  unfolding Each
+  each-set [] i a q p = p
+  each-set (x ∷ l) zero a q p = (q, p .1)
+  each-set (x ∷ l) (suc i) a q p = (p .0, each-set l i a q (p .1))
+
+  pub each-more : (l : List A) (a : A) → P a → Each P l → Each P (l ++ (a ∷ []))
+  unfolding Each
+  each-more [] a q p = (q, tt)
+  each-more (x ∷ l) a q p = (p .0, each-more l a q (p .1))
+
+pub each-both : {A : Type 0} (P Q R : A → Type 0) → ((a : A) → P a → Q a → R a) → (l : List A) → Each P l → Each Q l → Each R l
+unfolding Each
+each-both P Q R f [] p q = tt
+each-both P Q R f (a ∷ l) p q = (f a (p .0) (q .0), each-both P Q R f l (p .1) (q .1))
+
+pub each-so : {A : Type 0} (P Q : A → Type 0) → ((a : A) → P a → Q a) → (l : List A) → Each P l → Each Q l
+each-so P Q f l p = each-both P P Q (λ a x y. f a x) l p p
+
+module _ {A : Type 0} (test : A → Bool) where
+  pub every-each : (l : List A) → every test l ≡ true → Each (λ a. test a ≡ true) l
+  unfolding every Each
+  every-each [] e = tt
+  every-each (a ∷ l) e = (and-left (test a) (every test l) e, every-each l (and-right (test a) (every test l) e))
+
+  pub each-every : (l : List A) → Each (λ a. test a ≡ true) l → every test l ≡ true
+  unfolding every Each
+  each-every [] p = refl
+  each-every (a ∷ l) p = both _ _ (p .0) (each-every l (p .1))
+
+module _ {A : Type 0} (numberOf : A → ℕ) where
+  some-of-numbers : (n : ℕ) (l : List A) → some (λ a. eqb (numberOf a) n) l ≡ some (λ k. eqb k n) (map numberOf l)
+  unfolding some
+  some-of-numbers n [] = refl
+  some-of-numbers n (a ∷ l) = ap (_||_ (eqb (numberOf a) n)) (some-of-numbers n l)
+
+  distinct-of-numbers : (l : List A) → distinct numberOf l ≡ distinct (λ k. k) (map numberOf l)
+  unfolding distinct
+  distinct-of-numbers [] = refl
+  distinct-of-numbers (a ∷ l) = rw (some-of-numbers (numberOf a) l, distinct-of-numbers l)
+
+  pub distinct-same : (l m : List A) → map numberOf m ≡ map numberOf l → distinct numberOf l ≡ true → distinct numberOf m ≡ true
+  distinct-same l m e h = distinct-of-numbers m ∙ ap (distinct (λ k. k)) e ∙ sym (distinct-of-numbers l) ∙ h
+
+  none-more : (n : ℕ) (l : List A) (a : A) → some (λ b. eqb (numberOf b) n) l ≡ false → eqb (numberOf a) n ≡ false
+      → some (λ b. eqb (numberOf b) n) (l ++ (a ∷ [])) ≡ false
+  unfolding some
+  none-more n [] a h e = neither (eqb (numberOf a) n) false e refl
+  none-more n (b ∷ l) a h e =
+      let first = eqb (numberOf b) n in
+      let rest = some (λ c. eqb (numberOf c) n) l in
+      neither first _ (or-false-left first rest h) (none-more n l a (or-false-right first rest h) e)
+
+  pub distinct-more : (l : List A) (a : A) → some (λ b. eqb (numberOf b) (numberOf a)) l ≡ false → distinct numberOf l ≡ true
+      → distinct numberOf (l ++ (a ∷ [])) ≡ true
+  unfolding distinct some
+  distinct-more [] a n h = refl
+  distinct-more (b ∷ l) a n h =
+      let same = eqb (numberOf b) (numberOf a) in
+      let later = some (λ c. eqb (numberOf c) (numberOf a)) l in
+      let again = some (λ c. eqb (numberOf c) (numberOf b)) l in
+      let other : numberOf b ≡ numberOf a → ⊥ = eqb-false (numberOf b) (numberOf a) (or-false-left same later n) in
+      let differ : eqb (numberOf a) (numberOf b) ≡ false = ne-eqb (numberOf a) (numberOf b) (λ e. other (sym e)) in
+      let front : again ≡ false = not-true again (and-left (not again) (distinct numberOf l) h) in
+      let rest : distinct numberOf (l ++ (a ∷ [])) ≡ true = distinct-more l a (or-false-right same later n) (and-right (not again) (distinct numberOf l) h) in
+      both _ _ (ap not (none-more (numberOf b) l a front differ)) rest

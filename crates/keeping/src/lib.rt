@@ -1,0 +1,1 @@
+// What entries reach, a statement carries. No code.
