@@ -4,6 +4,7 @@ use mathlib.Core.Path.{_≡_, refl}
 use mathlib.Core.List.{List, [], _∷_}
 use lib.IntN.{pos, negsuc}
 use Rattle.laws.specs.Lists.{sumOf, eachAtMost}
+use Rattle.laws.specs.Tests.{allOf}
 use Rattle.laws.specs.Elements.{sumBy}
 use Rattle.refusals.specs.Refusals.{weighed, weighAll, smallest}
 use Rattle.units.specs.Units.{treesOf, residueOf}
@@ -74,5 +75,5 @@ AllHold [] = Unit
 AllHold (e ∷ es) = (reportedFrom (e .area) nothingReported (outcomesFrom (e .table) emptyHolding (e .entries)) ≡ e .reported) × AllHold es
 
 pub examples-hold : AllHold examples
-unfolding sumOf eachAtMost sumBy weighed weighAll smallest treesOf residueOf tonnes value changeBetween placeSix schedule6 hasColumns isTable lengthOf ownColumn consulted cellAt rateSix shareAfter treesOn residueOn subStock areaStock placeFrom findArea findSub areaAt subAt withSub yearsCarried amountsCarried fieldsCarried answered placed areaCases openCases opened addCases addedArea added clearCases clearedSub clearedArea cleared plantCases plantedSub plantedArea planted fileCases changeOf filedArea returnOf filed withdrawCases withdrawnArea withdrawn applied stepped outcomesFrom reportedWith reportedFrom
+unfolding allOf sumOf eachAtMost sumBy weighed weighAll smallest treesOf residueOf tonnes value changeBetween placeSix schedule6 hasColumns isTable lengthOf ownColumn consulted cellAt rateSix shareAfter treesOn residueOn subStock areaStock placeFrom findArea findSub areaAt subAt withSub yearsCarried amountsCarried fieldsCarried answered placed areaCases openCases opened addCases addedArea added clearCases clearedSub clearedArea cleared plantCases plantedSub plantedArea planted fileCases changeOf filedArea returnOf filed withdrawCases withdrawnArea withdrawn applied stepped outcomesFrom reportedWith reportedFrom
 examples-hold = (refl, (refl, tt))

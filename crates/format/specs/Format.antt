@@ -1,0 +1,84 @@
+-- "Carried statement. Lines: H,areas. Then per area, in order of opening: A,.. ; then its S,.. , in order of adding. .. Every line ends with byte 10."
+-- A comma is byte 44; a letter is its byte.
+use Prim.Native.Nat.{ℕ}
+use mathlib.Core.Bool.{Bool, true, false}
+use mathlib.Core.List.{List, [], _∷_, _++_}
+use Rattle.text.specs.Digits.{digits}
+use Rattle.forest.specs.declared.Forest.{Forest}
+use Rattle.forest.specs.Letters.{lettersOf}
+use Rattle.holding.specs.declared.Residue.{Residue}
+use Rattle.holding.specs.declared.Sub.{Sub}
+use Rattle.holding.specs.declared.Area.{Area}
+use Rattle.holding.specs.declared.Holding.{Holding}
+use Rattle.holding.specs.Holding.{areasOf, subsOf}
+
+-- the letter that starts a line, and the comma after it
+unfoldable pub startText : ℕ → List ℕ
+startText letter = letter ∷ 44 ∷ []
+
+-- a number, or a type, and the byte that ends its field
+unfoldable pub numberText : ℕ → ℕ → List ℕ
+numberText n end = digits n ++ (end ∷ [])
+
+unfoldable pub typeText : Forest → ℕ → List ℕ
+typeText forest end = lettersOf forest ++ (end ∷ [])
+
+-- pieces, one after the other
+unfoldable pub joined : List (List ℕ) → List ℕ
+joined [] = []
+joined (piece ∷ pieces) = piece ++ joined pieces
+
+-- the texts of a list, one after the other
+unfoldable pub texts : {A : Type 0} → (A → List ℕ) → List A → List ℕ
+texts text [] = []
+texts text (a ∷ l) = text a ++ texts text l
+
+-- "residue type,residue age,residue year"
+unfoldable pub residueText : Residue → List ℕ
+residueText residue = joined (typeText (residue .forest) 44 ∷ numberText (residue .age) 44 ∷ numberText (residue .year) 10 ∷ [])
+
+-- "S,number,tenths,type,planted,residue type,residue age,residue year"
+unfoldable pub subText : Sub → List ℕ
+subText sub =
+    joined
+    (startText 83
+    ∷ numberText (sub .number) 44
+    ∷ numberText (sub .tenths .0) 44
+    ∷ typeText (sub .forest) 44
+    ∷ numberText (sub .planted) 44
+    ∷ residueText (sub .residue)
+    ∷ [])
+
+-- "withdrawn (0 or 1)"
+abbrev pub flag : Bool → ℕ
+flag false = 0
+flag true = 1
+
+-- "number,opening,open year,latest year"
+unfoldable pub yearsText : Area → List ℕ
+yearsText area =
+    joined
+    (numberText (area .number) 44
+    ∷ numberText (area .opening) 44
+    ∷ numberText (area .«open_year») 44
+    ∷ numberText (area .latest) 44
+    ∷ [])
+
+-- "withdrawn (0 or 1),returns,stock kg (last closing, else opening),received,surrendered"
+unfoldable pub amountsText : Area → List ℕ
+amountsText area =
+    joined
+    (numberText (flag (area .withdrawn)) 44
+    ∷ numberText (area .returns) 44
+    ∷ numberText (area .stock .0) 44
+    ∷ numberText (area .received) 44
+    ∷ numberText (area .surrendered) 44
+    ∷ [])
+
+-- "A,number,opening,open year,latest year,withdrawn,returns,stock,received,surrendered,subs; then its S"
+unfoldable pub areaText : Area → List ℕ
+areaText area = joined (startText 65 ∷ yearsText area ∷ amountsText area ∷ numberText (area .count) 10 ∷ texts subText (subsOf area) ∷ [])
+
+-- "H,areas. Then per area .."
+unfoldable pub statementOf : Holding → List ℕ
+statementOf holding = joined (startText 72 ∷ numberText (holding .count) 10 ∷ texts areaText (areasOf holding) ∷ [])

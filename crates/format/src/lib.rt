@@ -1,0 +1,1 @@
+// The bytes of a carried statement. No code.
