@@ -4,11 +4,11 @@ ghost use mathlib.Core.List.{_++_};
 ghost use Prim.Native.Nat.{_+_, _<_, _≤_};
 ghost use lib.ListN.{length, drop};
 ghost use lib.Seq.{sets};
-ghost use Rattle.tables.specs.Answers.{written, bufferAfter};
+ghost use Rattle.answers.specs.Answers.{written, bufferAfter};
 ghost use Rattle.extension.specs.Extension.{begun, isFree, longer, extensible};
 use refusals::Refusal;
 use refusals::Verdict;
-use tables::Written;
+use answers::Written;
 
 // Whether neither the column nor a later one has cells.
 fn is_free(table: &[u16], column: usize) -> bool

@@ -1,3 +1,2 @@
 pub mod Participant
-pub mod Answers
 pub mod Bytes

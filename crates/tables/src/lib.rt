@@ -5,8 +5,9 @@ ghost use lib.ListN.{length, take, drop};
 ghost use lib.Seq.{sets};
 ghost use Rattle.laws.specs.Lists.{eachAtMost, sumOf};
 ghost use Rattle.tables.specs.Participant.{hasColumns, judged, lengthOf, ownColumn};
-ghost use Rattle.tables.specs.Answers.{written, bufferAfter};
+ghost use Rattle.answers.specs.Answers.{written, bufferAfter};
 ghost use Rattle.tables.specs.Bytes.{numbersOf, decodable};
+use answers::Written;
 use refusals::Refusal;
 use refusals::Verdict;
 
@@ -17,12 +18,6 @@ pub const LONGEST_COLUMN: u16 = 101;
 const LONGEST_TABLE: usize = 1020;
 
 pub const CELL_CEILING: u16 = 30000;
-
-// How many numbers were written, or why none were.
-pub enum Written {
-    Count(usize),
-    Refused(Refusal),
-}
 
 // Whether no number is over the ceiling.
 pub fn each_at_most(numbers: &[u16], ceiling: u16) -> bool

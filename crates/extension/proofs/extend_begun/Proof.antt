@@ -1,7 +1,7 @@
 -- `extension::extend_begun` meets its contract: a clear verdict leaves room for the longer table, and a refusal leaves the buffer.
 use mathlib.Core.Path.{sym, _∙_}
 use lib.ListN.{length}
-use Rattle.tables.proofs.Answers.{when-turned, when-clear}
+use Rattle.answers.proofs.Answers.{when-turned, when-clear}
 use Rattle.extension.specs.Extension.{longer}
 use Rattle.extension.proofs.Longer.{longer-length, clear-extensible}
 use borrow.Author.Needs.{needs}

@@ -6,7 +6,7 @@ use Rattle.refusals.specs.Refusals.{weighAll, smallest}
 use Rattle.laws.proofs.Stores.{stored-in-front}
 use Rattle.tables.specs.Bytes.{decodable, numbersOf}
 use Rattle.tables.proofs.Numbers.{number-count, clear-decodable}
-use Rattle.tables.proofs.Answers.{when-turned, when-clear}
+use Rattle.answers.proofs.Answers.{when-turned, when-clear}
 use borrow.Author.Needs.{needs}
 use Rattle.tables.proofs.decode.Statement.{statement}
 use Rattle.tables.proofs.decode.Tie as tie

@@ -6,8 +6,8 @@ use lib.ListN.{length, drop}
 use Rattle.refusals.specs.declared.Refusal.{Refusal}
 use Rattle.refusals.specs.declared.Verdict.{Verdict}
 use Rattle.refusals.specs.declared.Verdict.the-variants.{Clear, Turned}
-use Rattle.tables.specs.declared.Written.the-variants.{Count, Refused}
-use Rattle.tables.specs.Answers.{written, bufferAfter}
+use Rattle.answers.specs.declared.Written.the-variants.{Count, Refused}
+use Rattle.answers.specs.Answers.{written, bufferAfter}
 
 module _ (v : Verdict) (numbers buffer : List ℕ) where
   pub when-turned : (r : Refusal) → v ≡ Turned r → (Refused r ≡ written v numbers) × (buffer ≡ bufferAfter v numbers buffer)
