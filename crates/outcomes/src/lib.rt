@@ -2,9 +2,10 @@
 ghost use mathlib.Core.Path.{_≡_};
 ghost use Rattle.refusals.specs.Refusals.{weighed, weighAll};
 ghost use Rattle.refusals.specs.declared.Refusal.the-variants.{CarriedStatement};
-ghost use Rattle.outcomes.specs.Outcomes.{turnedBack, uncarried, areaCases};
+ghost use Rattle.outcomes.specs.Outcomes.{turnedBack, placed, uncarried, areaCases};
 use holding::Area;
 use holding::Found;
+use holding::Holding;
 use refusals::Refusal;
 use refusals::Verdict;
 use units::Change;
@@ -66,4 +67,23 @@ pub fn weigh_area(so_far: Verdict, found: Found, area: Area) -> Verdict
     let known = standing::is_known(found);
     let v = refusals::weigh(v, !known, Refusal::AreaUnknown);
     refusals::weigh(v, area.withdrawn, Refusal::AreaWithdrawn)
+}
+
+// The holding after a step: the area that comes to stand is placed.
+pub fn place(holding: Holding, outcome: Outcome) -> Holding
+    ensures { λ r. ⌜ r ≡ placed holding outcome ⌝ }
+{
+    let found = outcome.place;
+    let area = outcome.area;
+    let mut after = holding;
+    match found {
+        Found::At(i) => {
+            if i < 16 {
+                after.areas[i] = area;
+            }
+            after.count = outcome.count;
+            after
+        }
+        Found::Nowhere => after,
+    }
 }
