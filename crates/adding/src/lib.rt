@@ -20,9 +20,17 @@ fn verdict(number: u16, sub: Sub, found: Found, area: Area) -> Verdict
     let land = sub.tenths;
     let forest = sub.forest;
     let used = standing::is_known(holding::find_sub(area, sub.number));
-    let v = refusals::weigh(Verdict::Clear, !(ranges::is_area(number) & ranges::is_sub(sub.number)), Refusal::AreaOrSubNumber);
+    let v = refusals::weigh(
+        Verdict::Clear,
+        !(ranges::is_area(number) & ranges::is_sub(sub.number)),
+        Refusal::AreaOrSubNumber,
+    );
     let v = refusals::weigh(v, !ranges::is_land(land), Refusal::Hectares);
-    let v = refusals::weigh(v, !ranges::is_planted(forest, sub.planted), Refusal::YearRange);
+    let v = refusals::weigh(
+        v,
+        !ranges::is_planted(forest, sub.planted),
+        Refusal::YearRange,
+    );
     let v = outcomes::weigh_area(v, found, area);
     let v = refusals::weigh(v, used, Refusal::SubUsed);
     let v = refusals::weigh(v, 16 <= area.count, Refusal::SubsFull);
@@ -45,7 +53,13 @@ fn added_area<'a>(own: &'a [u16], default: &'a [u16], area: Area, sub: Sub) -> A
     after
 }
 
-pub fn add<'a>(own: &'a [u16], default: &'a [u16], holding: Holding, number: u16, sub: Sub) -> Outcome
+pub fn add<'a>(
+    own: &'a [u16],
+    default: &'a [u16],
+    holding: Holding,
+    number: u16,
+    sub: Sub,
+) -> Outcome
     ensures { λ r. ⌜ r ≡ added (now (own .entry)) (now (default .entry)) holding number sub ⌝ }
 {
     let found = holding::find_area(holding, number);

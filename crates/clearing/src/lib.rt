@@ -18,12 +18,20 @@ fn verdict(number: u16, sub: u8, year: u16, found: Found, area: Area) -> Verdict
 {
     let stand = holding::find_sub(area, sub);
     let forest = standing::sub_at(area, stand).forest;
-    let v = refusals::weigh(Verdict::Clear, !(ranges::is_area(number) & ranges::is_sub(sub)), Refusal::AreaOrSubNumber);
+    let v = refusals::weigh(
+        Verdict::Clear,
+        !(ranges::is_area(number) & ranges::is_sub(sub)),
+        Refusal::AreaOrSubNumber,
+    );
     let v = refusals::weigh(v, !ranges::is_year(year), Refusal::YearRange);
     let v = outcomes::weigh_area(v, found, area);
     let v = refusals::weigh(v, !standing::is_known(stand), Refusal::SubUnknown);
     let v = refusals::weigh(v, ranges::is_bare(forest), Refusal::ClearingBareLand);
-    refusals::weigh(v, (year < area.open_year) | (year < area.latest), Refusal::YearBefore)
+    refusals::weigh(
+        v,
+        (year < area.open_year) | (year < area.latest),
+        Refusal::YearBefore,
+    )
 }
 
 fn cleared_sub(sub: Sub, year: u16) -> Sub

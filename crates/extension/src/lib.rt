@@ -6,9 +6,9 @@ ghost use lib.ListN.{length, drop};
 ghost use lib.Seq.{sets};
 ghost use Rattle.answers.specs.Answers.{written, bufferAfter};
 ghost use Rattle.extension.specs.Extension.{begun, isFree, longer, extensible};
+use answers::Written;
 use refusals::Refusal;
 use refusals::Verdict;
-use answers::Written;
 
 // Whether neither the column nor a later one has cells.
 fn is_free(table: &[u16], column: usize) -> bool

@@ -18,10 +18,18 @@ use units::Change;
 fn verdict(number: u16, last: u16, found: Found, area: Area) -> Verdict
     ensures { λ r. ⌜ r ≡ smallest (fileCases number last found area) ⌝ }
 {
-    let v = refusals::weigh(Verdict::Clear, !ranges::is_area(number), Refusal::AreaOrSubNumber);
+    let v = refusals::weigh(
+        Verdict::Clear,
+        !ranges::is_area(number),
+        Refusal::AreaOrSubNumber,
+    );
     let v = refusals::weigh(v, !ranges::is_year(last), Refusal::YearRange);
     let v = outcomes::weigh_area(v, found, area);
-    refusals::weigh(v, (last < area.open_year) | (last < area.latest), Refusal::YearBefore)
+    refusals::weigh(
+        v,
+        (last < area.open_year) | (last < area.latest),
+        Refusal::YearBefore,
+    )
 }
 
 fn received(change: Change) -> u64
@@ -84,7 +92,13 @@ fn settle<'a>(own: &'a [u16], default: &'a [u16], area: Area, number: u16, last:
     }
 }
 
-pub fn file<'a>(own: &'a [u16], default: &'a [u16], holding: Holding, number: u16, last: u16) -> Outcome
+pub fn file<'a>(
+    own: &'a [u16],
+    default: &'a [u16],
+    holding: Holding,
+    number: u16,
+    last: u16,
+) -> Outcome
     ensures { λ r. ⌜ r ≡ filed (now (own .entry)) (now (default .entry)) holding number last ⌝ }
 {
     let found = holding::find_area(holding, number);

@@ -12,7 +12,7 @@ use Rattle.ranges.specs.Ranges.{firstYear, lastYear, firstPlanted, leastLand, m
 use Rattle.keeping.proofs.Tests.{clash, both}
 
 -- both bounds of a number that a test keeps within them
-within : (low n high : ℕ) → leb low n && leb n high ≡ true → (low ≤ n) × (n ≤ high)
+pub within : (low n high : ℕ) → leb low n && leb n high ≡ true → (low ≤ n) × (n ≤ high)
 within low n high e = (leb-true low n (and-left (leb low n) (leb n high) e), leb-true n high (and-right (leb low n) (leb n high) e))
 
 pub year-within : (y : ℕ) → isYear y ≡ true → (firstYear ≤ y) × (y ≤ lastYear)

@@ -15,7 +15,11 @@ fn verdict(holding: Holding, number: u16, opening: u16) -> Verdict
 {
     let found = holding::find_area(holding, number);
     let area = standing::area_at(holding, found);
-    let v = refusals::weigh(Verdict::Clear, !ranges::is_area(number), Refusal::AreaOrSubNumber);
+    let v = refusals::weigh(
+        Verdict::Clear,
+        !ranges::is_area(number),
+        Refusal::AreaOrSubNumber,
+    );
     let v = refusals::weigh(v, !ranges::is_year(opening), Refusal::YearRange);
     let v = outcomes::weigh_carried(v, found, area);
     let v = refusals::weigh(v, standing::is_known(found), Refusal::AreaUsed);

@@ -17,13 +17,21 @@ fn verdict(number: u16, sub: u8, forest: Forest, year: u16, found: Found, area: 
 {
     let stand = holding::find_sub(area, sub);
     let standing = standing::sub_at(area, stand).forest;
-    let v = refusals::weigh(Verdict::Clear, !(ranges::is_area(number) & ranges::is_sub(sub)), Refusal::AreaOrSubNumber);
+    let v = refusals::weigh(
+        Verdict::Clear,
+        !(ranges::is_area(number) & ranges::is_sub(sub)),
+        Refusal::AreaOrSubNumber,
+    );
     let v = refusals::weigh(v, ranges::is_bare(forest), Refusal::ForestType);
     let v = refusals::weigh(v, !ranges::is_year(year), Refusal::YearRange);
     let v = outcomes::weigh_area(v, found, area);
     let v = refusals::weigh(v, !standing::is_known(stand), Refusal::SubUnknown);
     let v = refusals::weigh(v, !ranges::is_bare(standing), Refusal::PlantingUnderTrees);
-    refusals::weigh(v, (year < area.open_year) | (year < area.latest), Refusal::YearBefore)
+    refusals::weigh(
+        v,
+        (year < area.open_year) | (year < area.latest),
+        Refusal::YearBefore,
+    )
 }
 
 fn planted_sub(sub: Sub, forest: Forest, year: u16) -> Sub

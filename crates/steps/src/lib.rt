@@ -37,7 +37,13 @@ pub fn apply<'a>(own: &'a [u16], default: &'a [u16], holding: Holding, entry: En
 {
     match entry {
         Entry::Open { area, opening } => opening::open(holding, area, opening),
-        Entry::Add { area, sub, land, forest, planted } => {
+        Entry::Add {
+            area,
+            sub,
+            land,
+            forest,
+            planted,
+        } => {
             let residue = Residue {
                 forest: Forest::Bare,
                 age: 0,
@@ -53,9 +59,17 @@ pub fn apply<'a>(own: &'a [u16], default: &'a [u16], holding: Holding, entry: En
             adding::add(own, default, holding, area, added)
         }
         Entry::Clear { area, sub, year } => clearing::clear(holding, area, sub, year),
-        Entry::Plant { area, sub, forest, year } => planting::plant(holding, area, sub, forest, year),
+        Entry::Plant {
+            area,
+            sub,
+            forest,
+            year,
+        } => planting::plant(holding, area, sub, forest, year),
         Entry::File { area, last } => filing::file(own, default, holding, area, last),
         Entry::Withdraw { area } => withdrawing::withdraw(holding, area),
-        Entry::Column { column: _, cells: _ } => take_column(holding),
+        Entry::Column {
+            column: _,
+            cells: _,
+        } => take_column(holding),
     }
 }

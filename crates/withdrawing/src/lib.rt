@@ -13,7 +13,11 @@ use refusals::Verdict;
 fn verdict(number: u16, found: Found, area: Area) -> Verdict
     ensures { λ r. ⌜ r ≡ smallest (withdrawCases number found area) ⌝ }
 {
-    let v = refusals::weigh(Verdict::Clear, !ranges::is_area(number), Refusal::AreaOrSubNumber);
+    let v = refusals::weigh(
+        Verdict::Clear,
+        !ranges::is_area(number),
+        Refusal::AreaOrSubNumber,
+    );
     outcomes::weigh_area(v, found, area)
 }
 

@@ -9,7 +9,6 @@ use Rattle.withdrawing.proofs.verdict.Tie as tie
 returns : tie.Need-returns
 unfolding withdrawCases areaCases smallest weighAll
 returns c =
-
     simp (
       c .weigh-area .ensures,
       c .before .weigh .ensures,

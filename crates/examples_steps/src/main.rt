@@ -1,0 +1,208 @@
+// Runs document 01's examples of steps: the ages of a stand, and an area whose stock falls before it grows.
+ghost use mathlib.Core.Path.{_≡_};
+ghost use Rattle.outcomes.specs.Outcomes.{placed};
+ghost use Rattle.steps.specs.Steps.{applied};
+ghost use Rattle.examples_steps.specs.Told.{toldBy, toldOf, firstStock};
+use entries::Entry;
+use forest::Forest;
+use holding::Holding;
+use outcomes::Outcome;
+use outcomes::Report;
+use units::Change;
+use units::Tenths;
+
+struct Figures {
+    gain: u64,
+    loss: u64,
+    due: u64,
+    balance: u64,
+}
+
+fn told_by(change: Change, due: u64, balance: u64) -> Figures
+    ensures { λ r. ⌜ r ≡ toldBy change due balance ⌝ }
+{
+    match change {
+        Change::Gain(tonnes) => Figures {
+            gain: tonnes,
+            loss: 0,
+            due,
+            balance,
+        },
+        Change::Loss(tonnes) => Figures {
+            gain: 0,
+            loss: tonnes,
+            due,
+            balance,
+        },
+    }
+}
+
+fn told(outcome: Outcome) -> Figures
+    ensures { λ r. ⌜ r ≡ toldOf (outcome .report) ⌝ }
+{
+    let report = outcome.report;
+    match report {
+        Report::Nothing => Figures {
+            gain: 0,
+            loss: 0,
+            due: 0,
+            balance: 0,
+        },
+        Report::Return {
+            area: _,
+            first: _,
+            last: _,
+            change,
+            received: _,
+            due,
+            balance,
+        } => told_by(change, due, balance),
+        Report::Withdrawal { area: _, due } => Figures {
+            gain: 0,
+            loss: 0,
+            due,
+            balance: 0,
+        },
+    }
+}
+
+fn after<'a>(own: &'a [u16], default: &'a [u16], holding: Holding, entry: Entry) -> Holding
+    ensures { λ r. ⌜ r ≡ placed holding (applied (now (own .entry)) (now (default .entry)) holding entry) ⌝ }
+{
+    let outcome = steps::apply(own, default, holding, entry);
+    outcomes::place(holding, outcome)
+}
+
+fn first_stock(holding: Holding) -> u64
+    ensures { λ r. ⌜ r ≡ firstStock holding ⌝ }
+{
+    let area = holding.areas[0];
+    let stock = area.stock;
+    stock.0
+}
+
+// "Planted 1992, open 2008, last 2012: ages 16 and 21": on 1 ha whose cell at each age is as many tonnes, the stocks are 16 and 21 t.
+fn ages() {
+    let default = schedules::schedule_six();
+    let own = [
+        0,
+        22,
+        0,
+        0,
+        0,
+        0,
+        0,
+        0,
+        0,
+        0,
+        0,
+        10,
+        20,
+        30,
+        40,
+        50,
+        60,
+        70,
+        80,
+        90,
+        100,
+        110,
+        120,
+        130,
+        140,
+        150,
+        160,
+        170,
+        180,
+        190,
+        200,
+        210,
+    ];
+    let empty = holding::empty_holding();
+    let opened = after(
+        &own,
+        &default,
+        empty,
+        Entry::Open {
+            area: 1,
+            opening: 2008,
+        },
+    );
+    let stand = Entry::Add {
+        area: 1,
+        sub: 1,
+        land: Tenths(10),
+        forest: Forest::DouglasFir,
+        planted: 1992,
+    };
+    let planted = after(&own, &default, opened, stand);
+    check::expect(first_stock(planted) == 16000);
+    let filed = after(
+        &own,
+        &default,
+        planted,
+        Entry::File {
+            area: 1,
+            last: 2012,
+        },
+    );
+    check::expect(first_stock(filed) == 21000);
+}
+
+// "Area of 1 ha, H cells 100,70,120, planted and opened 2010: returns to 2010 and 2011 report −30, 50; due 0; balance 50."
+fn falling_stock() {
+    let default = schedules::schedule_six();
+    let own = [0, 0, 0, 3, 0, 0, 0, 0, 0, 0, 1000, 700, 1200];
+    let empty = holding::empty_holding();
+    let opened = after(
+        &own,
+        &default,
+        empty,
+        Entry::Open {
+            area: 1,
+            opening: 2010,
+        },
+    );
+    let stand = Entry::Add {
+        area: 1,
+        sub: 1,
+        land: Tenths(10),
+        forest: Forest::ExoticHardwoods,
+        planted: 2010,
+    };
+    let planted = after(&own, &default, opened, stand);
+    let first = told(steps::apply(
+        &own,
+        &default,
+        planted,
+        Entry::File {
+            area: 1,
+            last: 2010,
+        },
+    ));
+    check::expect((first.loss == 30) & (first.due == 0) & (first.balance == 0));
+    let filed = after(
+        &own,
+        &default,
+        planted,
+        Entry::File {
+            area: 1,
+            last: 2010,
+        },
+    );
+    let second = told(steps::apply(
+        &own,
+        &default,
+        filed,
+        Entry::File {
+            area: 1,
+            last: 2011,
+        },
+    ));
+    check::expect((second.gain == 50) & (second.due == 0) & (second.balance == 50));
+}
+
+fn main() {
+    ages();
+    falling_stock();
+}

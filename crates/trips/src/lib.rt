@@ -1,0 +1,1 @@
+// What is written reads back, and what is read writes back. No code.
