@@ -1,0 +1,16 @@
+-- `records::put_start` meets its contract: a byte, and a byte.
+use Rattle.format.specs.Format.{startText}
+use Rattle.records.proofs.Puts.{put-then, put-one}
+use borrow.Author.Needs.{needs}
+use Rattle.records.proofs.put_start.Statement.{statement}
+use Rattle.records.proofs.put_start.Tie as tie
+
+returns : tie.Need-returns
+unfolding startText
+returns c =
+    let comma = c .before .before in
+    let letter = comma .before .before .before .before in
+    put-then (put-one (letter .put-byte .ensures)) (put-one (comma .put-byte2 .ensures))
+
+pub put-start-spec : {M : Type 1} → statement M
+put-start-spec = tie.close (tie.spec (λ c κs. search needs) (λ c κs. search needs) (λ c. search needs) returns)

@@ -1,0 +1,34 @@
+-- `writing::put_amounts` meets its contract: its five fields, one after the other.
+use Prim.Native.Nat.{ℕ}
+use mathlib.Core.Path.{ap}
+use Rattle.format.specs.Format.{joined, numberText, amountsText}
+use Rattle.records.proofs.Puts.{put-then, put-last, put-as}
+use borrow.Author.Needs.{needs}
+use Rattle.writing.proofs.put_amounts.Statement.{statement}
+use Rattle.writing.proofs.put_amounts.Tie as tie
+
+returns : tie.Need-returns
+unfolding amountsText joined
+returns c =
+    let surrendered = c .before .before in
+    let received = surrendered .before .before .before .before in
+    let stock = received .before .before .before .before in
+    let filed = stock .before .before .before .before in
+    let withdrawn = filed .before .before .before .before .before in
+    put-then (put-as (ap (λ (n : ℕ). numberText n 44) (withdrawn .before .before .as-number .ensures)) (withdrawn .put-field .ensures))
+    (put-then (filed .put-field2 .ensures)
+    (put-then (stock .put-field3 .ensures) (put-then (received .put-field4 .ensures) (put-last (surrendered .put-field5 .ensures)))))
+
+pub put-amounts-spec : {M : Type 1} → statement M
+put-amounts-spec =
+    tie.close
+    (tie.spec
+    (λ c κs. search needs)
+    (λ c κs. search needs)
+    (λ c. search needs)
+    (λ c κs. search needs)
+    (λ c κs. search needs)
+    (λ c κs. search needs)
+    (λ c κs. search needs)
+    (λ c. search needs)
+    returns)

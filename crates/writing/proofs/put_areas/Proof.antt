@@ -1,0 +1,87 @@
+-- `writing::put_areas` meets its contract. The loop's invariant: the lines before the i-th area's are put.
+use Prim.Native.Nat.{_-_, _*_, _≤_}
+use mathlib.Core.Path.{_≡_}
+use native.Mathlib.Omega.{arith}
+use lib.ListN.{length, take}
+use Rattle.laws.proofs.Standing.{as-long}
+use Rattle.text.proofs.Writes.{wrote-length}
+use Rattle.format.specs.Format.{texts, areaText}
+use Rattle.records.specs.Put.{Put}
+use Rattle.records.proofs.Puts.{put-none, put-within}
+use Rattle.records.proofs.Texts.{put-next, put-end, put-out}
+use borrow.Author.Needs.{needs}
+use Rattle.writing.proofs.put_areas.Statement.{statement}
+use Rattle.writing.proofs.put_areas.Tie as tie
+
+abbrev Inv-loop : tie.InvT-loop
+Inv-loop out₀ at holding n next₀ i₀ out next i = (i ≤ 16) × Put (2020 * i) out₀ at (texts areaText (take i (take n (holding .areas)))) out next
+
+abbrev μ-loop : tie.MeasureT-loop
+μ-loop out₀ at holding n next₀ i₀ out next i = 16 - i
+
+sixteen : (c : tie.Start Inv-loop μ-loop) → length (c .args .t3 .areas) ≡ 16
+sixteen c = search (needs, as-long)
+
+loop-holds : tie.Need-loop-holds Inv-loop μ-loop
+unfolding texts
+loop-holds c = (omega arith, put-none _ _ (omega arith) (omega arith))
+
+same-length : tie.Need-same-length Inv-loop μ-loop
+same-length c = wrote-length (c .before .before .loop .inv .1 .wrote)
+
+returns : tie.Need-returns Inv-loop μ-loop
+returns c =
+    let b = c .before .before in
+    put-within (omega (arith, b .loop .inv .0)) (put-end areaText _ _ (b .loop .i) 2020 (b .loop .inv .1) (c .if1 .taken))
+
+mul-area : tie.Need-mul-area Inv-loop μ-loop
+mul-area c = omega arith
+
+element-copy-out-area : tie.Need-element-copy-out-area Inv-loop μ-loop
+element-copy-out-area c = omega arith
+
+put-area-requires : tie.Need-put-area-requires Inv-loop μ-loop
+put-area-requires c κs = search needs
+
+add-i : tie.Need-add-i Inv-loop μ-loop
+add-i c = omega arith
+
+loop-less : tie.Need-loop-less Inv-loop μ-loop
+loop-less c = omega arith
+
+loop-again : tie.Need-loop-again Inv-loop μ-loop
+loop-again c =
+    let p = c .before .before in
+    let e = p .before .before .before in
+    let b = e .before .before in (
+      omega arith,
+      put-next areaText _ _ (b .loop .i) 2020 (b .loop .inv .1) _ (e .if1 .left) (omega (arith, sixteen (b .before .before))) (p .put-area .ensures),
+    )
+
+same-length-2 : tie.Need-same-length-2 Inv-loop μ-loop
+same-length-2 c = wrote-length (c .before .loop .inv .1 .wrote)
+
+returns-2 : tie.Need-returns-2 Inv-loop μ-loop
+returns-2 c =
+    let b = c .before in
+    let a = b .before .before .args .t3 in
+    put-within (omega (arith, b .loop .inv .0))
+    (put-out areaText (a .areas) (a .count) (b .loop .i) 2020 (b .loop .inv .1) (omega (arith, c .loop-test .left, sixteen (b .before .before))))
+
+pub put-areas-spec : {M : Type 1} → statement M
+put-areas-spec =
+    tie.close
+    (tie.spec
+    Inv-loop
+    μ-loop
+    loop-holds
+    same-length
+    returns
+    mul-area
+    element-copy-out-area
+    put-area-requires
+    add-i
+    loop-less
+    loop-again
+    same-length-2
+    returns-2)

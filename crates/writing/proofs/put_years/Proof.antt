@@ -1,0 +1,31 @@
+-- `writing::put_years` meets its contract: its four fields, one after the other.
+use Rattle.format.specs.Format.{joined, yearsText}
+use Rattle.records.proofs.Puts.{put-then, put-last}
+use borrow.Author.Needs.{needs}
+use Rattle.writing.proofs.put_years.Statement.{statement}
+use Rattle.writing.proofs.put_years.Tie as tie
+
+returns : tie.Need-returns
+unfolding yearsText joined
+returns c =
+    let latest = c .before .before in
+    let openYear = latest .before .before .before .before .before in
+    let opening = openYear .before .before .before .before .before in
+    let number = opening .before .before .before .before .before in
+    put-then (number .put-field .ensures)
+    (put-then (opening .put-field2 .ensures) (put-then (openYear .put-field3 .ensures) (put-last (latest .put-field4 .ensures))))
+
+pub put-years-spec : {M : Type 1} → statement M
+put-years-spec =
+    tie.close
+    (tie.spec
+    (λ c. search needs)
+    (λ c κs. search needs)
+    (λ c. search needs)
+    (λ c κs. search needs)
+    (λ c. search needs)
+    (λ c κs. search needs)
+    (λ c. search needs)
+    (λ c κs. search needs)
+    (λ c. search needs)
+    returns)

@@ -1,0 +1,95 @@
+// Writes a holding as a statement. One set of functions measures and writes, since a byte past a buffer's end is not stored.
+ghost use mathlib.Core.Path.{_≡_};
+ghost use Prim.Native.Nat.{_≤_};
+ghost use lib.ListN.{length};
+ghost use Rattle.text.specs.Writing.{Wrote};
+ghost use Rattle.holding.specs.Holding.{areasOf};
+ghost use Rattle.format.specs.Format.{flag, texts, yearsText, amountsText, areaText, statementOf};
+ghost use Rattle.records.specs.Put.{Put};
+ghost use Rattle.answers.specs.Answers.{written, bufferAfter};
+ghost use Rattle.writing.specs.Writable.{writable};
+use answers::Written;
+use holding::Area;
+use holding::Holding;
+use refusals::Refusal;
+
+fn put_years(out: &mut [u8], at: usize, area: Area) -> usize
+    ensures { λ r. ⌜ Put 84 (now (out .entry)) at (yearsText area) (now (out .exit)) r ⌝ }
+{
+    let next = records::put_field(out, at, area.number as u64, 44);
+    let next = records::put_field(out, next, area.opening as u64, 44);
+    let next = records::put_field(out, next, area.open_year as u64, 44);
+    records::put_field(out, next, area.latest as u64, 44)
+}
+
+fn as_number(withdrawn: bool) -> u64
+    ensures { λ r. ⌜ r ≡ flag withdrawn ⌝ }
+{
+    if withdrawn {
+        return 1;
+    }
+    0
+}
+
+fn put_amounts(out: &mut [u8], at: usize, area: Area) -> usize
+    ensures { λ r. ⌜ Put 105 (now (out .entry)) at (amountsText area) (now (out .exit)) r ⌝ }
+{
+    let stock = area.stock;
+    let withdrawn = as_number(area.withdrawn);
+    let next = records::put_field(out, at, withdrawn, 44);
+    let next = records::put_field(out, next, area.returns as u64, 44);
+    let next = records::put_field(out, next, stock.0, 44);
+    let next = records::put_field(out, next, area.received, 44);
+    records::put_field(out, next, area.surrendered, 44)
+}
+
+fn put_area(out: &mut [u8], at: usize, area: Area) -> usize
+    ensures { λ r. ⌜ Put 2020 (now (out .entry)) at (areaText area) (now (out .exit)) r ⌝ }
+{
+    let next = records::put_start(out, at, 65);
+    let next = put_years(out, next, area);
+    let next = put_amounts(out, next, area);
+    let next = records::put_field(out, next, area.count as u64, 10);
+    records::put_subs(out, next, area)
+}
+
+fn put_areas(out: &mut [u8], at: usize, holding: Holding) -> usize
+    ensures { λ r. ⌜ Put 32320 (now (out .entry)) at (texts areaText (areasOf holding)) (now (out .exit)) r ⌝ }
+{
+    let n = holding.count;
+    let mut next = at;
+    let mut i: usize = 0;
+    while i < 16 {
+        if n <= i {
+            return next;
+        }
+        let area = holding.areas[i];
+        next = put_area(out, next, area);
+        i += 1;
+    }
+    next
+}
+
+// Puts the holding's statement at a place; the answer is the place after it.
+pub fn put_statement(out: &mut [u8], at: usize, holding: Holding) -> usize
+    ensures { λ r. ⌜ Wrote (now (out .entry)) at (statementOf holding) (now (out .exit)) r ⌝ }
+    ensures { λ _. ⌜ length (statementOf holding) ≤ 32343 ⌝ }
+{
+    let next = records::put_start(out, at, 72);
+    let next = records::put_field(out, next, holding.count as u64, 10);
+    put_areas(out, next, holding)
+}
+
+// Writes the holding's statement to the front of `out`: how many bytes it has, or why it is not written.
+pub fn write(holding: Holding, out: &mut [u8]) -> Written
+    ensures { λ r. ⌜ r ≡ written (writable (statementOf holding) (length (now (out .entry)))) (statementOf holding) ⌝ }
+    ensures { λ _. ⌜ now (out .exit) ≡ bufferAfter (writable (statementOf holding) (length (now (out .entry)))) (statementOf holding) (now (out .entry)) ⌝ }
+{
+    let mut unkept = [0u8; 1];
+    let need = put_statement(&mut unkept, 0, holding);
+    if out.len() < need {
+        return Written::Refused(Refusal::OutputShort);
+    }
+    let count = put_statement(out, 0, holding);
+    Written::Count(count)
+}
