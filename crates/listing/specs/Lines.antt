@@ -1,0 +1,11 @@
+-- A book's lines: "a line ends with byte 10 (the last may lack it)".
+use Prim.Native.Nat.{ℕ}
+use mathlib.Core.Bool.{cond}
+use mathlib.Core.List.{List, [], _∷_}
+use lib.Dec.{eqb}
+use Rattle.text.specs.Fields.{extend}
+
+-- each without its byte 10; a byte 10 at the book's end adds no line
+unfoldable pub linesOf : List ℕ → List (List ℕ)
+linesOf [] = []
+linesOf (b ∷ bs) = cond (eqb b 10) ([] ∷ linesOf bs) (extend b (linesOf bs))

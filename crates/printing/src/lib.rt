@@ -1,0 +1,1 @@
+// What is printed of a line and of a book.
