@@ -1,8 +1,8 @@
 -- "The field unit's own program, written in C, calls the engine with a statement, a table, a line and an output buffer."
 use Prim.Native.Nat.{ℕ, _/_, _%_}
-use mathlib.Core.Bool.{not}
+use mathlib.Core.Bool.{cond, not}
 use mathlib.Core.List.{List, [], _∷_, _++_}
-use lib.Dec.{eqb, ltb}
+use lib.Dec.{ltb, leb}
 use lib.IntN.{ℤ, pos, negℤ}
 use lib.ListN.{length}
 use Rattle.refusals.specs.declared.Refusal.the-variants.{TableColumn, OutputShort}
@@ -21,18 +21,12 @@ use Rattle.holding.specs.declared.Holding.{Holding}
 use Rattle.outcomes.specs.declared.Outcome.{Outcome}
 use Rattle.outcomes.specs.Outcomes.{placed}
 use Rattle.format.specs.Format.{statementOf}
-use Rattle.statement.specs.declared.Read.{Read}
 use Rattle.statement.specs.Statement.{readOf}
-use Rattle.printing.specs.Printing.{reportText}
 use Rattle.growing.specs.Growing.{longerBy}
+use Rattle.printing.specs.Printing.{reportText}
 use Rattle.listing.specs.Listing.{lineTaken}
 
--- the first of two verdicts that refuses; the smaller number of two is the first wherever the first one's are not above the second one's
-abbrev pub firstOf : Verdict → Verdict → Verdict
-firstOf (Refused refusal) later = Refused refusal
-firstOf Accepted later = later
-
--- "3 .. 6": what refuses the line itself
+-- what refuses the line itself
 abbrev pub lineVerdict : Parsed → Verdict
 lineVerdict (Taken entry) = Accepted
 lineVerdict (Turned refusal) = Refused refusal
@@ -41,11 +35,60 @@ lineVerdict (Turned refusal) = Refused refusal
 unfoldable pub tableVerdict : List ℕ → Verdict
 tableVerdict table = weighed (decodable table longestTable) (not (isTable (numbersOf table))) TableColumn
 
--- the smaller of two refusals, by number
-abbrev pub smallerOf : Verdict → Verdict → Verdict
-smallerOf Accepted later = later
-smallerOf (Refused a) Accepted = Refused a
-smallerOf (Refused a) (Refused b) = chosen (ltb (numberOf b) (numberOf a))
-  where
-    chosen : _
-    chosen = _
+-- of two verdicts the refusal with the smaller number
+abbrev pub smaller : Verdict → Verdict → Verdict
+smaller Accepted other = other
+smaller (Refused r) Accepted = Refused r
+smaller (Refused r) (Refused s) = cond (leb (numberOf r) (numberOf s)) (Refused r) (Refused s)
+
+-- "The smallest number that applies is given, otherwise none": of the line, the table, the statement and the state
+unfoldable pub callVerdict : List ℕ → List ℕ → List ℕ → Verdict
+callVerdict statement table line =
+    let read = readOf statement in
+    smaller (lineVerdict (entryOf line))
+    (smaller (tableVerdict table)
+    (smaller (read .verdict)
+    (lineTaken (numbersOf table) (read .holding) line .verdict)))
+
+-- "two bytes a number, low byte first"
+unfoldable pub tableBytes : List ℕ → List ℕ
+tableBytes [] = []
+tableBytes (n ∷ numbers) = n % 256 ∷ n / 256 ∷ tableBytes numbers
+
+-- "The output takes the new statement, then what `book` prints for an accepted R or W"
+abbrev pub stateBytes : Holding → Outcome → List ℕ
+stateBytes holding outcome = statementOf (placed holding outcome) ++ reportText (outcome .report)
+
+-- "for T it takes the longer table instead"
+abbrev pub entryBytes : List ℕ → Holding → List ℕ → Entry → List ℕ
+entryBytes own holding line (Column column cells) = tableBytes (longerBy own line column)
+entryBytes own holding line (Open area opening) = stateBytes holding (lineTaken own holding line)
+entryBytes own holding line (Add area sub land forest year) = stateBytes holding (lineTaken own holding line)
+entryBytes own holding line (Clear area sub year) = stateBytes holding (lineTaken own holding line)
+entryBytes own holding line (Plant area sub forest year) = stateBytes holding (lineTaken own holding line)
+entryBytes own holding line (File area last) = stateBytes holding (lineTaken own holding line)
+entryBytes own holding line (Withdraw area) = stateBytes holding (lineTaken own holding line)
+
+abbrev pub parsedBytes : List ℕ → Holding → List ℕ → Parsed → List ℕ
+parsedBytes own holding line (Taken entry) = entryBytes own holding line entry
+parsedBytes own holding line (Turned refusal) = []
+
+unfoldable pub callBytes : List ℕ → List ℕ → List ℕ → List ℕ
+callBytes statement table line = parsedBytes (numbersOf table) (readOf statement .holding) line (entryOf line)
+
+-- "8 only where no other applies"
+unfoldable pub callWeighed : List ℕ → List ℕ → List ℕ → ℕ → Verdict
+callWeighed statement table line room =
+    weighed (callVerdict statement table line) (ltb room (length (callBytes statement table line))) OutputShort
+
+-- "The call returns the bytes written, or a refusal's number with a minus sign."
+abbrev pub answerOf : Verdict → List ℕ → ℤ
+answerOf Accepted bytes = pos (length bytes)
+answerOf (Refused refusal) bytes = negℤ (pos (numberOf refusal))
+
+unfoldable pub callAnswer : List ℕ → List ℕ → List ℕ → ℕ → ℤ
+callAnswer statement table line room = answerOf (callWeighed statement table line room) (callBytes statement table line)
+
+-- the output after the call
+unfoldable pub callOutput : List ℕ → List ℕ → List ℕ → List ℕ → List ℕ
+callOutput statement table line out = bufferAfter (callWeighed statement table line (length out)) (callBytes statement table line) out
