@@ -1,8 +1,6 @@
 // Runs document 01's examples of steps: the ages of a stand, and an area whose stock falls before it grows.
 ghost use mathlib.Core.Path.{_≡_};
-ghost use Rattle.outcomes.specs.Outcomes.{placed};
-ghost use Rattle.steps.specs.Steps.{applied};
-ghost use Rattle.examples_steps.specs.Told.{toldBy, toldOf, firstStock};
+ghost use Rattle.examples_steps.specs.Told.{toldBy, toldOf, firstStock, afterOn, plantedOn};
 use entries::Entry;
 use forest::Forest;
 use holding::Holding;
@@ -67,7 +65,7 @@ fn told(outcome: Outcome) -> Figures
 }
 
 fn after<'a>(own: &'a [u16], default: &'a [u16], holding: Holding, entry: Entry) -> Holding
-    ensures { λ r. ⌜ r ≡ placed holding (applied (now (own .entry)) (now (default .entry)) holding entry) ⌝ }
+    ensures { λ r. ⌜ r ≡ afterOn (now (own .entry)) (now (default .entry)) holding entry ⌝ }
 {
     let outcome = steps::apply(own, default, holding, entry);
     outcomes::place(holding, outcome)
@@ -79,6 +77,28 @@ fn first_stock(holding: Holding) -> u64
     let area = holding.areas[0];
     let stock = area.stock;
     stock.0
+}
+
+// An area of that opening year with 1 ha of trees in its first sub-area.
+fn planted<'a>(
+    own: &'a [u16],
+    default: &'a [u16],
+    opening: u16,
+    forest: Forest,
+    year: u16,
+) -> Holding
+    ensures { λ r. ⌜ r ≡ plantedOn (now (own .entry)) (now (default .entry)) opening forest year ⌝ }
+{
+    let empty = holding::empty_holding();
+    let opened = after(own, default, empty, Entry::Open { area: 1, opening });
+    let stand = Entry::Add {
+        area: 1,
+        sub: 1,
+        land: Tenths(10),
+        forest,
+        planted: year,
+    };
+    after(own, default, opened, stand)
 }
 
 // "Planted 1992, open 2008, last 2012: ages 16 and 21": on 1 ha whose cell at each age is as many tonnes, the stocks are 16 and 21 t.
@@ -118,29 +138,12 @@ fn ages() {
         200,
         210,
     ];
-    let empty = holding::empty_holding();
-    let opened = after(
-        &own,
-        &default,
-        empty,
-        Entry::Open {
-            area: 1,
-            opening: 2008,
-        },
-    );
-    let stand = Entry::Add {
-        area: 1,
-        sub: 1,
-        land: Tenths(10),
-        forest: Forest::DouglasFir,
-        planted: 1992,
-    };
-    let planted = after(&own, &default, opened, stand);
-    check::expect(first_stock(planted) == 16000);
+    let opened = planted(&own, &default, 2008, Forest::DouglasFir, 1992);
+    check::expect(first_stock(opened) == 16000);
     let filed = after(
         &own,
         &default,
-        planted,
+        opened,
         Entry::File {
             area: 1,
             last: 2012,
@@ -150,41 +153,30 @@ fn ages() {
 }
 
 // "Area of 1 ha, H cells 100,70,120, planted and opened 2010: returns to 2010 and 2011 report −30, 50; due 0; balance 50."
-fn falling_stock() {
+fn falling_return() {
     let default = schedules::schedule_six();
     let own = [0, 0, 0, 3, 0, 0, 0, 0, 0, 0, 1000, 700, 1200];
-    let empty = holding::empty_holding();
-    let opened = after(
-        &own,
-        &default,
-        empty,
-        Entry::Open {
-            area: 1,
-            opening: 2010,
-        },
-    );
-    let stand = Entry::Add {
-        area: 1,
-        sub: 1,
-        land: Tenths(10),
-        forest: Forest::ExoticHardwoods,
-        planted: 2010,
-    };
-    let planted = after(&own, &default, opened, stand);
+    let opened = planted(&own, &default, 2010, Forest::ExoticHardwoods, 2010);
     let first = told(steps::apply(
         &own,
         &default,
-        planted,
+        opened,
         Entry::File {
             area: 1,
             last: 2010,
         },
     ));
     check::expect((first.loss == 30) & (first.due == 0) & (first.balance == 0));
+}
+
+fn rising_return() {
+    let default = schedules::schedule_six();
+    let own = [0, 0, 0, 3, 0, 0, 0, 0, 0, 0, 1000, 700, 1200];
+    let opened = planted(&own, &default, 2010, Forest::ExoticHardwoods, 2010);
     let filed = after(
         &own,
         &default,
-        planted,
+        opened,
         Entry::File {
             area: 1,
             last: 2010,
@@ -204,5 +196,6 @@ fn falling_stock() {
 
 fn main() {
     ages();
-    falling_stock();
+    falling_return();
+    rising_return();
 }
