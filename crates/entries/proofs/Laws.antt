@@ -19,7 +19,8 @@ use Rattle.refusals.specs.declared.Verdict.{Verdict}
 use Rattle.refusals.specs.declared.Verdict.the-variants.{Clear, Turned as TurnedBy}
 use Rattle.entries.specs.declared.Entry.{Entry}
 use Rattle.entries.specs.declared.Parsed.the-variants.{Taken, Turned}
-use Rattle.entries.specs.Ranges.{numberAt, isBare, misdatedIf, misdated}
+use Rattle.ranges.specs.Ranges.{isBare}
+use Rattle.entries.specs.Ranges.{numberAt, misdatedIf, misdated}
 use Rattle.entries.specs.Rules.{parsed}
 
 -- the verdict w that was reached is the definition's, v

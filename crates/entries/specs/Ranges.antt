@@ -3,7 +3,7 @@ use Prim.Native.Nat.{ℕ}
 use mathlib.Core.Bool.{Bool, true, false}
 use mathlib.Core.List.{List}
 use Rattle.forest.specs.declared.Forest.{Forest}
-use Rattle.forest.specs.declared.Forest.the-variants.{Bare, Radiata, DouglasFir, ExoticSoftwoods, ExoticHardwoods, Indigenous}
+use Rattle.forest.specs.declared.Forest.the-variants.{Bare}
 use Rattle.forest.specs.declared.Named.{Named}
 use Rattle.forest.specs.declared.Named.the-variants.{Listed, Unlisted}
 use Rattle.forest.specs.Letters.{named}
@@ -12,6 +12,7 @@ use Rattle.numbers.specs.declared.Number.{Number}
 use Rattle.numbers.specs.Numbers.{numberIn}
 use Rattle.numbers.specs.Ranges.{outside}
 use Rattle.decimals.specs.Decimals.{hectaresIn}
+use Rattle.ranges.specs.Ranges.{lastArea, lastSub, firstYear, lastYear, firstPlanted, isBare}
 
 -- the field at a place, read
 abbrev pub numberAt : List (List ℕ) → ℕ → Number
@@ -25,11 +26,11 @@ typeAt fs k = named (fieldAt fs k)
 
 -- "Areas are 1 to 999."
 abbrev pub badArea : Number → Bool
-badArea n = outside 1 999 n
+badArea n = outside 1 lastArea n
 
 -- "sub 1 to 99"
 abbrev pub badSub : Number → Bool
-badSub n = outside 1 99 n
+badSub n = outside 1 lastSub n
 
 -- "hectares .. 1 to 10000 as entered", in ten-thousandths
 abbrev pub badHectares : Number → Bool
@@ -37,15 +38,7 @@ badHectares n = outside 10000 100000000 n
 
 -- "opening (2008 to 2199)"; "last (2008 to 2199)"; "years 2008 to 2199"
 abbrev pub badYear : Number → Bool
-badYear n = outside 2008 2199 n
-
-abbrev pub isBare : Forest → Bool
-isBare Bare = true
-isBare (Radiata region) = false
-isBare DouglasFir = false
-isBare ExoticSoftwoods = false
-isBare ExoticHardwoods = false
-isBare Indigenous = false
+badYear n = outside firstYear lastYear n
 
 abbrev pub unlisted : Named → Bool
 unlisted (Listed f) = false
@@ -58,7 +51,7 @@ unplantable Unlisted = true
 
 abbrev pub misdatedIf : Bool → Number → Bool
 misdatedIf true n = outside 0 0 n
-misdatedIf false n = outside 1900 2199 n
+misdatedIf false n = outside firstPlanted lastYear n
 
 -- "planted 1900 to 2199. Bare land is type B, planted 0; B with a year, or another type with 0, is 5."
 abbrev pub misdated : Named → Number → Bool

@@ -5,7 +5,7 @@ ghost use Rattle.numbers.specs.Ranges.{malformed};
 ghost use Rattle.fields.specs.Places.{part};
 ghost use Rattle.refusals.specs.Refusals.{weighed};
 ghost use Rattle.refusals.specs.declared.Refusal.the-variants.{Form, AreaOrSubNumber, YearRange};
-ghost use Rattle.entries.specs.Ranges.{badArea, badSub, badYear, isBare, unlisted, unplantable, misdatedIf, misdated, forestOf};
+ghost use Rattle.entries.specs.Ranges.{badArea, badSub, badYear, unlisted, unplantable, misdatedIf, misdated, forestOf};
 use fields::Places;
 use forest::Forest;
 use forest::Named;
@@ -58,16 +58,6 @@ pub enum Parsed {
     Turned(Refusal),
 }
 
-const LAST_AREA: u64 = 999;
-
-const LAST_SUB: u64 = 99;
-
-const FIRST_YEAR: u64 = 2008;
-
-const LAST_YEAR: u64 = 2199;
-
-const FIRST_PLANTED: u64 = 1900;
-
 // The number in the field at a place.
 pub fn number_at(line: &[u8], places: Places, k: usize) -> Number
     ensures { λ r. ⌜ r ≡ numberIn (part (now (line .entry)) places k) ⌝ }
@@ -86,7 +76,7 @@ pub fn weigh_area(so_far: Verdict, area: Number) -> Verdict
 {
     weigh(
         so_far,
-        numbers::is_outside(area, 1, LAST_AREA),
+        numbers::is_outside(area, 1, ranges::LAST_AREA as u64),
         Refusal::AreaOrSubNumber,
     )
 }
@@ -96,7 +86,7 @@ pub fn weigh_sub(so_far: Verdict, sub: Number) -> Verdict
 {
     weigh(
         so_far,
-        numbers::is_outside(sub, 1, LAST_SUB),
+        numbers::is_outside(sub, 1, ranges::LAST_SUB as u64),
         Refusal::AreaOrSubNumber,
     )
 }
@@ -106,22 +96,9 @@ pub fn weigh_year(so_far: Verdict, year: Number) -> Verdict
 {
     weigh(
         so_far,
-        numbers::is_outside(year, FIRST_YEAR, LAST_YEAR),
+        numbers::is_outside(year, ranges::FIRST_YEAR as u64, ranges::LAST_YEAR as u64),
         Refusal::YearRange,
     )
-}
-
-pub fn is_bare(forest: Forest) -> bool
-    ensures { λ r. ⌜ r ≡ isBare forest ⌝ }
-{
-    match forest {
-        Forest::Bare => true,
-        Forest::Radiata(_) => false,
-        Forest::DouglasFir => false,
-        Forest::ExoticSoftwoods => false,
-        Forest::ExoticHardwoods => false,
-        Forest::Indigenous => false,
-    }
 }
 
 pub fn is_unlisted(named: Named) -> bool
@@ -137,7 +114,7 @@ pub fn is_unplantable(named: Named) -> bool
     ensures { λ r. ⌜ r ≡ unplantable named ⌝ }
 {
     match named {
-        Named::Listed(forest) => is_bare(forest),
+        Named::Listed(forest) => ranges::is_bare(forest),
         Named::Unlisted => true,
     }
 }
@@ -149,14 +126,18 @@ fn is_misdated_if(bare: bool, planted: Number) -> bool
     if bare {
         return numbers::is_outside(planted, 0, 0);
     }
-    numbers::is_outside(planted, FIRST_PLANTED, LAST_YEAR)
+    numbers::is_outside(
+        planted,
+        ranges::FIRST_PLANTED as u64,
+        ranges::LAST_YEAR as u64,
+    )
 }
 
 pub fn is_misdated(named: Named, planted: Number) -> bool
     ensures { λ r. ⌜ r ≡ misdated named planted ⌝ }
 {
     match named {
-        Named::Listed(forest) => is_misdated_if(is_bare(forest), planted),
+        Named::Listed(forest) => is_misdated_if(ranges::is_bare(forest), planted),
         Named::Unlisted => is_misdated_if(false, planted),
     }
 }

@@ -5,15 +5,15 @@ ghost use Rattle.ranges.specs.Ranges.{isBare, isArea, isSub, isYear, isL
 use forest::Forest;
 use units::Tenths;
 
-const LAST_AREA: u16 = 999;
+pub const LAST_AREA: u16 = 999;
 
-const LAST_SUB: u8 = 99;
+pub const LAST_SUB: u8 = 99;
 
-const FIRST_YEAR: u16 = 2008;
+pub const FIRST_YEAR: u16 = 2008;
 
-const LAST_YEAR: u16 = 2199;
+pub const LAST_YEAR: u16 = 2199;
 
-const FIRST_PLANTED: u16 = 1900;
+pub const FIRST_PLANTED: u16 = 1900;
 
 // In tenths of a hectare.
 const LEAST_LAND: u32 = 10;

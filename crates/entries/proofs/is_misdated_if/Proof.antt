@@ -9,5 +9,7 @@ is-misdated-if-spec =
     (tie.spec
     (λ c κs. search needs)
     (λ c. simp (c .is-outside .ensures, c .before .if1 .taken))
+    (λ c. search needs)
+    (λ c. search needs)
     (λ c κs. search needs)
     (λ c. simp (c .is-outside2 .ensures, c .before .if1 .left)))

@@ -5,4 +5,10 @@ use Rattle.entries.proofs.weigh_year.Tie as tie
 
 pub weigh-year-spec : {M : Type 1} → statement M
 weigh-year-spec =
-    tie.close (tie.spec (λ c κs. search needs) (λ c κs. search needs) (λ c. simp (c .weigh .ensures, c .before .is-outside .ensures)))
+    tie.close
+    (tie.spec
+    (λ c. search needs)
+    (λ c. search needs)
+    (λ c κs. search needs)
+    (λ c κs. search needs)
+    (λ c. simp (c .weigh .ensures, c .before .is-outside .ensures)))
