@@ -29,7 +29,7 @@ use Rattle.ledger.specs.Keyed.{change}
 use Rattle.ledger.specs.Ledger.{Row, subNumber, opened, added, withSubs, returned, withdrawnRow, stockAfter, changeOf, lesser}
 use Rattle.accounts.specs.Reports.{Reported, nothingReported}
 use Rattle.accounts.specs.Running.{total, sumsFrom, lowest}
-use Rattle.accounts.specs.DemandThree.{Shown}
+use Rattle.accounts.specs.Accounts.{Shown}
 use Rattle.accounts.proofs.Keyed.{standing-changed}
 use Rattle.accounts.proofs.Running.{total-more, lowest-more}
 use Rattle.accounts.proofs.Units.{Near, near-start, near-added, near-more, Held, held-start, held-more, balance-is, balance-more, paid-more}

@@ -5,7 +5,7 @@ pub mod Alike
 pub mod Agreed
 pub mod Entries
 pub mod Changes
-pub mod DemandThree
+pub mod Accounts
 pub mod Refused
 pub mod Distinct
 pub mod Rows

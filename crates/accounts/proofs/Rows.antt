@@ -31,12 +31,12 @@ use Rattle.steps.specs.Steps.{applied, stepped, outcomesFrom}
 use Rattle.ledger.specs.Ledger.{Row, rowNumber, opened, entered, noted}
 use Rattle.accounts.specs.Reports.{Reported, nothingReported, reportedWith}
 use Rattle.accounts.specs.Feeding.{under, isAccepted, fed}
-use Rattle.accounts.specs.DemandThree.{holdingAfter, stepsOf, ledgerAfter, reportedFor, Agrees, DemandThree}
+use Rattle.accounts.specs.Accounts.{holdingAfter, stepsOf, ledgerAfter, reportedFor, Agrees, AccountsAgree}
 use Rattle.accounts.proofs.Keyed.{standing-none}
 use Rattle.accounts.proofs.Distinct.{none-bears, distinct-more, distinct-changed, listed-under}
 use Rattle.accounts.proofs.Agreed.{areaNumber, Matched, Agreed}
 use Rattle.accounts.proofs.Entries.{entry-keeps}
-use Rattle.accounts.proofs.DemandThree.{agreed-at-first, demand-three}
+use Rattle.accounts.proofs.Accounts.{agreed-at-first, accounts-agree}
 
 module _ (own : List ℕ) where
   -- an accepted opening finds no area of its number
@@ -103,10 +103,10 @@ rows-distinct own es = distinct-after own es emptyHolding [] (λ n. nothingRepor
 -- demand 3 for each row
 pub each-row : (own : List ℕ) (es : List Entry) (row : Row) → List·Memᴰ row (ledgerAfter own es)
     → Agrees own (row .number) (holdingAfter own es) (stepsOf own es) (reportedFor own es (row .number)) (some row)
-unfolding DemandThree
+unfolding AccountsAgree
 each-row own es row m =
     go (under rowNumber (row .number) (ledgerAfter own es)) (listed-under rowNumber row (ledgerAfter own es) (rows-distinct own es) m)
-    (demand-three own es (row .number))
+    (accounts-agree own es (row .number))
   where
     Agreeing : Option Row → Type 0
     Agreeing q = Agrees own (row .number) (holdingAfter own es) (stepsOf own es) (reportedFor own es (row .number)) q

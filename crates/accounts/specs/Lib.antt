@@ -1,4 +1,4 @@
 pub mod Reports
 pub mod Running
 pub mod Feeding
-pub mod DemandThree
+pub mod Accounts

@@ -1,1 +1,1 @@
-// Demand 3: what the engine reports, against the plain ledger. No code.
+// Demand 3 for every list of entries: what the engine reports, against the plain ledger. Read-backs come in demand_three. No code.

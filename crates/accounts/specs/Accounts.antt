@@ -1,5 +1,5 @@
--- Demand 3: "Take every list of these steps from an empty holding, refused ones included: opening, sub-area, clearing, planting, return and
--- withdrawal entries .. Each step gets the holding that the last one left .. and a single table set serves all."
+-- Demand 3 for every list of entries: "Take every list of these steps from an empty holding, refused ones included: opening, sub-area,
+-- clearing, planting, return and withdrawal entries .. Each step gets the holding that the last one left .. and a single table set serves all."
 use Prim.Native.Nat.{ℕ, _*_, _≤_}
 use mathlib.Core.Path.{_≡_}
 use mathlib.Core.Bool.{Bool, true, false}
@@ -73,6 +73,6 @@ Agrees own n holding steps reported none = (reported ≡ nothingReported) × (fi
 Agrees own n holding steps reported (some row) =
     Accounted own n steps reported row × (known (findArea holding n) ≡ true) × Shown (areaAt holding (findArea holding n)) reported row
 
--- demand 3 for a table, a list of entries and an area's number
-unfoldable pub DemandThree : List ℕ → List Entry → ℕ → Type 0
-DemandThree own es n = Agrees own n (holdingAfter own es) (stepsOf own es) (reportedFor own es n) (under rowNumber n (ledgerAfter own es))
+-- the accounts of a table, a list of entries and an area's number
+unfoldable pub AccountsAgree : List ℕ → List Entry → ℕ → Type 0
+AccountsAgree own es n = Agrees own n (holdingAfter own es) (stepsOf own es) (reportedFor own es n) (under rowNumber n (ledgerAfter own es))

@@ -24,7 +24,7 @@ use Rattle.ledger.specs.Ledger.{Row, rowNumber, entered, noted}
 use Rattle.accounts.specs.Reports.{Reported, nothingReported, reportedWith, reportedFrom}
 use Rattle.accounts.specs.Running.{total, lowest}
 use Rattle.accounts.specs.Feeding.{under, isAccepted, fed, changeFor, changesFrom, isReturnOf, returnsIn}
-use Rattle.accounts.specs.DemandThree.{holdingAfter, stepsOf, ledgerAfter, reportedFor, Accounted, Shown, Agrees, DemandThree}
+use Rattle.accounts.specs.Accounts.{holdingAfter, stepsOf, ledgerAfter, reportedFor, Accounted, Shown, Agrees, AccountsAgree}
 use Rattle.accounts.proofs.Keyed.{standing-here, standing-none}
 use Rattle.accounts.proofs.Units.{Near}
 use Rattle.accounts.proofs.Alike.{Alike}
@@ -131,10 +131,10 @@ module _ (n : ℕ) (holding : Holding) where
       let z : _≡_ {A = ℕ} 0 1 = cc in absurd (omega arith)
   stands-at area (At i) e u = (refl, let s = sym u ∙ standing-here areaNumber n (holding .areas) (holding .count) i emptyArea e in cc)
 
--- THE THEOREM of demand 3: for every table, every list of entries and every area's number
-pub demand-three : (own : List ℕ) (es : List Entry) (n : ℕ) → DemandThree own es n
-unfolding DemandThree Agrees
-demand-three own es n = go (under areaNumber n (areasOf holding)) refl (under rowNumber n (ledgerAfter own es)) (agreed .matched)
+-- for every table, every list of entries and every area's number
+pub accounts-agree : (own : List ℕ) (es : List Entry) (n : ℕ) → AccountsAgree own es n
+unfolding AccountsAgree Agrees
+accounts-agree own es n = go (under areaNumber n (areasOf holding)) refl (under rowNumber n (ledgerAfter own es)) (agreed .matched)
   where
     holding : Holding
     holding = holdingAfter own es
