@@ -6,6 +6,7 @@ use mathlib.Core.Path.{_≡_, refl, _∙_}
 use mathlib.Core.List.{List, [], _∷_, List·Memᴰ}
 use mathlib.Core.Option.{Option, none, some}
 use native.Mathlib.Omega.{arith}
+use Rattle.laws.proofs.Distinct.{distinct-more}
 use Rattle.laws.specs.Elements.{distinct}
 use Rattle.refusals.specs.declared.Refusal.the-variants.{TableColumn}
 use Rattle.refusals.specs.declared.Verdict.{Verdict}
@@ -33,7 +34,7 @@ use Rattle.accounts.specs.Reports.{Reported, nothingReported, reportedWi
 use Rattle.accounts.specs.Feeding.{under, isAccepted, fed}
 use Rattle.accounts.specs.Accounts.{holdingAfter, stepsOf, ledgerAfter, reportedFor, Agrees, AccountsAgree}
 use Rattle.accounts.proofs.Keyed.{standing-none}
-use Rattle.accounts.proofs.Distinct.{none-bears, distinct-more, distinct-changed, listed-under}
+use Rattle.accounts.proofs.Distinct.{none-bears, distinct-changed, listed-under}
 use Rattle.accounts.proofs.Agreed.{areaNumber, Matched, Agreed}
 use Rattle.accounts.proofs.Entries.{entry-keeps}
 use Rattle.accounts.proofs.Accounts.{agreed-at-first, accounts-agree}

@@ -1,18 +1,16 @@
 -- A property of each element, read at a place and kept by a store or by one element more; the test `every` is such a property; and `distinct`,
--- which looks at numbers alone, is kept where they stay or where one comes that none bears.
+-- which looks at numbers alone, is kept where they stay.
 use Prim.Native.Nat.{ℕ, zero, suc, _<_}
-use mathlib.Core.Bool.{Bool, true, false, not, _||_}
+use mathlib.Core.Bool.{Bool, true, _||_}
 use mathlib.Core.Path.{_≡_, refl, sym, ap, _∙_}
 use mathlib.Core.List.{List, [], _∷_, _++_, map}
 use native.Mathlib.Omega.{arith}
 use lib.Dec.{eqb}
 use lib.ListN.{length, getD, set}
-use borrow.Author.Tests.{eqb-false, ne-eqb, not-true}
 use Rattle.laws.specs.Elements.{some, every, distinct}
-use Rattle.laws.proofs.Elements.{or-false-left, or-false-right}
 use Rattle.laws.proofs.Lists.{and-left, and-right}
 use Rattle.keeping.specs.Tidy.{Each}
-use Rattle.keeping.proofs.Tests.{both, neither}
+use Rattle.keeping.proofs.Tests.{both}
 
 module _ {A : Type 0} (P : A → Type 0) where
   pub each-at : (l : List A) (i : ℕ) (d : A) → i < length l → Each P l → P (getD l i d)
@@ -64,26 +62,3 @@ module _ {A : Type 0} (numberOf : A → ℕ) where
 
   pub distinct-same : (l m : List A) → map numberOf m ≡ map numberOf l → distinct numberOf l ≡ true → distinct numberOf m ≡ true
   distinct-same l m e h = distinct-of-numbers m ∙ ap (distinct (λ k. k)) e ∙ sym (distinct-of-numbers l) ∙ h
-
-  none-more : (n : ℕ) (l : List A) (a : A) → some (λ b. eqb (numberOf b) n) l ≡ false → eqb (numberOf a) n ≡ false
-      → some (λ b. eqb (numberOf b) n) (l ++ (a ∷ [])) ≡ false
-  unfolding some
-  none-more n [] a h e = neither (eqb (numberOf a) n) false e refl
-  none-more n (b ∷ l) a h e =
-      let first = eqb (numberOf b) n in
-      let rest = some (λ c. eqb (numberOf c) n) l in
-      neither first _ (or-false-left first rest h) (none-more n l a (or-false-right first rest h) e)
-
-  pub distinct-more : (l : List A) (a : A) → some (λ b. eqb (numberOf b) (numberOf a)) l ≡ false → distinct numberOf l ≡ true
-      → distinct numberOf (l ++ (a ∷ [])) ≡ true
-  unfolding distinct some
-  distinct-more [] a n h = refl
-  distinct-more (b ∷ l) a n h =
-      let same = eqb (numberOf b) (numberOf a) in
-      let later = some (λ c. eqb (numberOf c) (numberOf a)) l in
-      let again = some (λ c. eqb (numberOf c) (numberOf b)) l in
-      let other : numberOf b ≡ numberOf a → ⊥ = eqb-false (numberOf b) (numberOf a) (or-false-left same later n) in
-      let differ : eqb (numberOf a) (numberOf b) ≡ false = ne-eqb (numberOf a) (numberOf b) (λ e. other (sym e)) in
-      let front : again ≡ false = not-true again (and-left (not again) (distinct numberOf l) h) in
-      let rest : distinct numberOf (l ++ (a ∷ [])) ≡ true = distinct-more l a (or-false-right same later n) (and-right (not again) (distinct numberOf l) h) in
-      both _ _ (ap not (none-more (numberOf b) l a front differ)) rest

@@ -8,6 +8,7 @@ use native.Mathlib.Numerals.{add-one}
 use native.Mathlib.Omega.{arith}
 use lib.ListN.{length, getD, set, take, drop, replicate, length-take, length-set, take-append-drop}
 use lib.Seq.{drop-set-lt, drop-drop, take-set-lt, take-suc-set, getD-take, map-set-same}
+use Rattle.laws.proofs.Distinct.{distinct-more}
 use Rattle.laws.specs.Elements.{distinct}
 use Rattle.holding.specs.declared.Found.{Found}
 use Rattle.holding.specs.declared.Found.the-variants.{At, Nowhere}
@@ -16,7 +17,7 @@ use Rattle.holding.proofs.Stands.{stands, stands-nowhere}
 use Rattle.standing.specs.Standing.{known}
 use Rattle.keeping.specs.Tidy.{Tidy, Each}
 use Rattle.keeping.proofs.Tests.{clash}
-use Rattle.keeping.proofs.Lists.{each-at, each-set, each-more, each-so, distinct-same, distinct-more}
+use Rattle.keeping.proofs.Lists.{each-at, each-set, each-more, each-so, distinct-same}
 
 -- what a search did not find stands nowhere
 pub unknown : (found : Found) → known found ≡ false → found ≡ Nowhere

@@ -1,4 +1,4 @@
--- Tests joined: both hold, neither holds, one holds where another does, or just when it does.
+-- Tests joined: both hold, one holds where another does, or just when it does.
 use Prim.Native.Nat.{ℕ}
 use mathlib.Core.Bool.{Bool, true, false, not, _&&_, _||_, Bool·beq}
 use mathlib.Core.Path.{_≡_, refl, sym}
@@ -11,9 +11,6 @@ clash e = absurd (let z : _≡_ {A = ℕ} 0 1 = cc in omega arith)
 
 pub both : (a b : Bool) → a ≡ true → b ≡ true → a && b ≡ true
 both a b e f = rw (e, f)
-
-pub neither : (a b : Bool) → a ≡ false → b ≡ false → (a || b) ≡ false
-neither a b e f = rw (e, f)
 
 -- "equal if withdrawn": a number equals another where a test holds
 module _ (t : Bool) (a b : ℕ) where

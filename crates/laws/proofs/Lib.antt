@@ -1,4 +1,5 @@
 pub mod Choosing
+pub mod Distinct
 pub mod Elements
 pub mod Lists
 pub mod Order
