@@ -1,6 +1,6 @@
 -- "T,kind,type,cells: .. It extends the table; refused (6) where its column or a later one already has cells." "33 T once an area stands."
 use Prim.Native.Nat.{ℕ}
-use mathlib.Core.List.{List, [], _∷_}
+use mathlib.Core.List.{List}
 use lib.Dec.{leb}
 use lib.ListN.{length, replicate}
 use Rattle.text.specs.Fields.{split}
@@ -31,11 +31,14 @@ abbrev pub countAfter : Verdict → List ℕ → ℕ
 countAfter Clear numbers = length numbers
 countAfter (Turned refusal) numbers = 0
 
-unfoldable pub grownBy : List ℕ → ℕ → List ℕ → ℕ → Grown
-grownBy own areas line column =
-    let verdict = growable own areas line column in
+-- what a verdict makes of the longer table
+abbrev pub grownOf : Verdict → List ℕ → Grown
+grownOf verdict numbers =
     record {
       verdict = verdict;
-      count = countAfter verdict (longerBy own line column);
-      numbers = bufferAfter verdict (longerBy own line column) (replicate longestTable 0);
+      count = countAfter verdict numbers;
+      numbers = bufferAfter verdict numbers (replicate longestTable 0);
     }
+
+unfoldable pub grownBy : List ℕ → ℕ → List ℕ → ℕ → Grown
+grownBy own areas line column = grownOf (growable own areas line column) (longerBy own line column)

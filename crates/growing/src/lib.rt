@@ -1,4 +1,16 @@
 // The participant's table longer by a T line's column.
+ghost use mathlib.Core.Path.{_≡_};
+ghost use mathlib.Core.List.{[]};
+ghost use lib.Dec.{leb};
+ghost use lib.ListN.{length};
+ghost use Rattle.refusals.specs.declared.Refusal.the-variants.{TableAfterArea};
+ghost use Rattle.refusals.specs.declared.Verdict.the-variants.{Turned};
+ghost use Rattle.refusals.specs.Refusals.{weighed};
+ghost use Rattle.tables.specs.Participant.{longestTable};
+ghost use Rattle.extension.specs.Extension.{begun, longer, extensible};
+ghost use Rattle.growing.specs.Growing.{lineCells, grownOf, grownBy};
+use answers::Written;
+use refusals::Refusal;
 use refusals::Verdict;
 
 // Where the line is turned back there is no table: no count, and noughts.
@@ -6,4 +18,60 @@ pub struct Grown {
     pub verdict: Verdict,
     pub count: usize,
     pub numbers: [u16; 1020],
+}
+
+fn turned(refusal: Refusal) -> Grown
+    ensures { λ r. ⌜ r ≡ grownOf (Turned refusal) [] ⌝ }
+{
+    Grown {
+        verdict: Verdict::Turned(refusal),
+        count: 0,
+        numbers: [0u16; 1020],
+    }
+}
+
+// How many cells a T line has: its fields behind the type.
+fn cell_count(line: &[u8]) -> usize
+    ensures { λ r. ⌜ r ≡ length (lineCells (now (line .entry))) ⌝ }
+{
+    let places = fields::scan(line);
+    let count = places.count;
+    if count <= 3 {
+        return 0;
+    }
+    count - 3
+}
+
+// The table longer by a column of given cells.
+fn grow_by(own: &[u16], areas: usize, column: usize, cells: &[u16]) -> Grown
+    ensures { λ r. ⌜ r ≡ grownOf (weighed (extensible (begun (now (own .entry))) column (now (cells .entry)) longestTable) (leb 1 areas) TableAfterArea) (longer (begun (now (own .entry))) column (now (cells .entry))) ⌝ }
+{
+    let mut numbers = [0u16; 1020];
+    let answer = extension::extend(own, column, cells, &mut numbers);
+    match answer {
+        Written::Refused(refusal) => turned(refusal),
+        Written::Count(count) => {
+            if 1 <= areas {
+                return turned(Refusal::TableAfterArea);
+            }
+            Grown {
+                verdict: Verdict::Clear,
+                count,
+                numbers,
+            }
+        }
+    }
+}
+
+// The participant's table after a T line, by how many areas stand and the line's column.
+pub fn grow(own: &[u16], areas: usize, line: &[u8], column: usize) -> Grown
+    ensures { λ r. ⌜ r ≡ grownBy (now (own .entry)) areas (now (line .entry)) column ⌝ }
+{
+    let count = cell_count(line);
+    let mut cells = [0u16; 101];
+    let read = lines::read_cells(line, &mut cells);
+    match read {
+        Verdict::Turned(_) => turned(Refusal::TableColumn),
+        Verdict::Clear => grow_by(own, areas, column, &cells[0..count]),
+    }
 }

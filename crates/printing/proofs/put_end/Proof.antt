@@ -1,0 +1,12 @@
+-- `printing::put_end` meets its contract: its line is a letter and two numbers.
+use Rattle.printing.specs.Printing.{endText}
+use borrow.Author.Needs.{needs}
+use Rattle.printing.proofs.put_end.Statement.{statement}
+use Rattle.printing.proofs.put_end.Tie as tie
+
+returns : tie.Need-returns
+unfolding endText
+returns c = c .before .before .put-pair .ensures
+
+pub put-end-spec : {M : Type 1} → statement M
+put-end-spec = tie.close (tie.spec (λ c κs. search needs) (λ c. search needs) returns)

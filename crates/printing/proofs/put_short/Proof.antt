@@ -1,0 +1,15 @@
+-- `printing::put_short` meets its contract: a number of sixteen bits has at most five digits.
+use native.Mathlib.Omega.{arith}
+use Rattle.printing.proofs.Lengths.{number-few}
+use Rattle.printing.proofs.Parts.{put-few}
+use borrow.Author.Needs.{needs}
+use Rattle.printing.proofs.put_short.Statement.{statement}
+use Rattle.printing.proofs.put_short.Tie as tie
+
+returns : tie.Need-returns
+returns c =
+    let a = c .before .before .before .before .before .args in
+    put-few (number-few 4 (a .number) (a .end) (omega arith)) (c .before .before .put-field .ensures)
+
+pub put-short-spec : {M : Type 1} → statement M
+put-short-spec = tie.close (tie.spec (λ c κs. search needs) (λ c. search needs) returns)
