@@ -11,7 +11,7 @@ use Rattle.refusals.specs.declared.Verdict.the-variants.{Clear as Accepted, Tur
 use Rattle.refusals.specs.Refusals.{numberOf, weighed}
 use Rattle.answers.specs.Answers.{bufferAfter}
 use Rattle.tables.specs.Participant.{isTable, longestTable}
-use Rattle.tables.specs.Bytes.{numbersOf, decodable}
+use Rattle.decoding.specs.Bytes.{numbersOf, decodable}
 use Rattle.entries.specs.declared.Entry.{Entry}
 use Rattle.entries.specs.declared.Entry.the-variants.{Open, Add, Clear, Plant, File, Withdraw, Column}
 use Rattle.entries.specs.declared.Parsed.{Parsed}

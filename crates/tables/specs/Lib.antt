@@ -1,2 +1,1 @@
 pub mod Participant
-pub mod Bytes

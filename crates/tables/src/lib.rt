@@ -1,21 +1,15 @@
-// The participant's table: judged, read from bytes, and taken apart into columns.
+// The participant's table: judged, and taken apart into columns.
 ghost use mathlib.Core.Path.{_≡_};
-ghost use Prim.Native.Nat.{_+_, _*_, _/_, _%_, _<_, _≤_};
+ghost use Prim.Native.Nat.{_+_, _≤_};
 ghost use lib.ListN.{length, take, drop};
-ghost use lib.Seq.{sets};
 ghost use Rattle.laws.specs.Lists.{eachAtMost, sumOf};
 ghost use Rattle.tables.specs.Participant.{hasColumns, judged, lengthOf, ownColumn};
-ghost use Rattle.answers.specs.Answers.{written, bufferAfter};
-ghost use Rattle.tables.specs.Bytes.{numbersOf, decodable};
-use answers::Written;
 use refusals::Refusal;
 use refusals::Verdict;
 
 pub const COLUMNS: usize = 10;
 
 pub const LONGEST_COLUMN: u16 = 101;
-
-const LONGEST_TABLE: usize = 1020;
 
 pub const CELL_CEILING: u16 = 30000;
 
@@ -109,37 +103,4 @@ pub fn column(table: &[u16], number: usize) -> &[u16]
     }
     let start = COLUMNS + sum(&table[0..number]);
     part(table, start, column_length(table, number))
-}
-
-// The numbers of the bytes, two bytes a number and the low byte first, to the front of `out`.
-fn put_numbers(bytes: &[u8], out: &mut [u16])
-    requires { ⌜ (length (now bytes) % 2 ≡ 0) × (length (now bytes) / 2 ≤ length (now out)) ⌝ }
-    ensures { λ _. ⌜ now (out .exit) ≡ sets (now (out .entry)) 0 (numbersOf (now (bytes .entry))) ⌝ }
-{
-    let n = bytes.len() / 2;
-    let mut i = 0;
-    while i < n {
-        let low = bytes[2 * i] as u16;
-        let high = bytes[2 * i + 1] as u16;
-        out[i] = low + 256 * high;
-        i += 1;
-    }
-}
-
-// A table's bytes to its numbers, at the front of `out`.
-pub fn decode(bytes: &[u8], out: &mut [u16]) -> Written
-    ensures { λ r. ⌜ r ≡ written (decodable (now (bytes .entry)) (length (now (out .entry)))) (numbersOf (now (bytes .entry))) ⌝ }
-    ensures { λ _. ⌜ now (out .exit) ≡ bufferAfter (decodable (now (bytes .entry)) (length (now (out .entry)))) (numbersOf (now (bytes .entry))) (now (out .entry)) ⌝ }
-{
-    let n = bytes.len() / 2;
-    let v = refusals::weigh(Verdict::Clear, bytes.len() % 2 != 0, Refusal::TableColumn);
-    let v = refusals::weigh(v, LONGEST_TABLE < n, Refusal::TableColumn);
-    let v = refusals::weigh(v, out.len() < n, Refusal::OutputShort);
-    match v {
-        Verdict::Turned(refusal) => Written::Refused(refusal),
-        Verdict::Clear => {
-            put_numbers(bytes, out);
-            Written::Count(n)
-        }
-    }
 }

@@ -1,15 +1,15 @@
--- `tables::decode` meets its contract: a clear verdict leaves room for the numbers, and a refusal leaves the buffer.
+-- `decoding::decode` meets its contract: a clear verdict leaves room for the numbers, and a refusal leaves the buffer.
 use mathlib.Core.Path.{_≡_, sym, _∙_}
 use native.Mathlib.Omega.{arith}
 use lib.ListN.{length}
 use Rattle.refusals.specs.Refusals.{weighAll, smallest}
 use Rattle.laws.proofs.Stores.{stored-in-front}
-use Rattle.tables.specs.Bytes.{decodable, numbersOf}
-use Rattle.tables.proofs.Numbers.{number-count, clear-decodable}
+use Rattle.decoding.specs.Bytes.{decodable, numbersOf}
+use Rattle.decoding.proofs.Numbers.{number-count, clear-decodable}
 use Rattle.answers.proofs.Answers.{when-turned, when-clear}
 use borrow.Author.Needs.{needs}
-use Rattle.tables.proofs.decode.Statement.{statement}
-use Rattle.tables.proofs.decode.Tie as tie
+use Rattle.decoding.proofs.decode.Statement.{statement}
+use Rattle.decoding.proofs.decode.Tie as tie
 
 verdict : (c : tie.After-weigh3)
     → c .weigh3 .result ≡ decodable (c .before .before .before .before .before .args .bytes .now) (length (c .before .before .before .before .before .args .out .now))

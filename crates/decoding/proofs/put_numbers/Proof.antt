@@ -1,14 +1,14 @@
--- `tables::put_numbers` meets its contract. The loop's invariant: storing what is left stores all.
+-- `decoding::put_numbers` meets its contract. The loop's invariant: storing what is left stores all.
 use Prim.Native.Nat.{_≤_, _-_, _*_, _+_}
 use mathlib.Core.Path.{_≡_, refl, _∙_}
 use native.Mathlib.Omega.{arith}
 use lib.ListN.{length, drop, length-set}
 use lib.Seq.{sets}
-use Rattle.tables.specs.Bytes.{numbersOf}
-use Rattle.tables.proofs.Numbers.{number-stored, numbers-end}
+use Rattle.decoding.specs.Bytes.{numbersOf}
+use Rattle.decoding.proofs.Numbers.{number-stored, numbers-end}
 use borrow.Author.Needs.{needs}
-use Rattle.tables.proofs.put_numbers.Statement.{statement}
-use Rattle.tables.proofs.put_numbers.Tie as tie
+use Rattle.decoding.proofs.put_numbers.Statement.{statement}
+use Rattle.decoding.proofs.put_numbers.Tie as tie
 
 abbrev Inv-loop : tie.InvT-loop
 Inv-loop bytes out₀ n i₀ out i =

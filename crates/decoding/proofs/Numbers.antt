@@ -11,7 +11,7 @@ use Rattle.refusals.specs.declared.Refusal.the-variants.{TableColumn, OutputSho
 use Rattle.refusals.specs.declared.Verdict.the-variants.{Clear}
 use Rattle.refusals.specs.Refusals.{weighAll, smallest}
 use Rattle.refusals.proofs.Laws.{clear-before, clear-last}
-use Rattle.tables.specs.Bytes.{numbersOf, decodable}
+use Rattle.decoding.specs.Bytes.{numbersOf, decodable}
 
 pub number-count : (bytes : List ℕ) → length (numbersOf bytes) ≡ length bytes / 2
 unfolding numbersOf
