@@ -1,0 +1,26 @@
+-- The table of cases of each entry, on a holding: "The smallest number that applies is given, otherwise none".
+use mathlib.Core.List.{List, [], _∷_}
+use lib.Dec.{leb}
+use Rattle.refusals.specs.declared.Refusal.the-variants.{TableAfterArea}
+use Rattle.refusals.specs.Refusals.{Case, _⇒_}
+use Rattle.entries.specs.declared.Entry.{Entry}
+use Rattle.entries.specs.declared.Entry.the-variants.{Open, Add, Clear, Plant, File, Withdraw, Column}
+use Rattle.holding.specs.declared.Holding.{Holding}
+use Rattle.holding.specs.Find.{findArea}
+use Rattle.standing.specs.Standing.{areaAt}
+use Rattle.opening.specs.Opening.{openCases}
+use Rattle.adding.specs.Adding.{newSub, addCases}
+use Rattle.clearing.specs.Clearing.{clearCases}
+use Rattle.planting.specs.Planting.{plantCases}
+use Rattle.filing.specs.Filing.{fileCases}
+use Rattle.withdrawing.specs.Withdrawing.{withdrawCases}
+
+unfoldable pub casesOf : Holding → Entry → List Case
+casesOf holding (Open area opening) = openCases holding area opening
+casesOf holding (Add area sub land forest year) =
+    let found = findArea holding area in addCases area (newSub sub land forest year) found (areaAt holding found)
+casesOf holding (Clear area sub year) = let found = findArea holding area in clearCases area sub year found (areaAt holding found)
+casesOf holding (Plant area sub forest year) = let found = findArea holding area in plantCases area sub forest year found (areaAt holding found)
+casesOf holding (File area last) = let found = findArea holding area in fileCases area last found (areaAt holding found)
+casesOf holding (Withdraw area) = let found = findArea holding area in withdrawCases area found (areaAt holding found)
+casesOf holding (Column column cells) = leb 1 (holding .count) ⇒ TableAfterArea ∷ []
