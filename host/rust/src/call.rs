@@ -1,0 +1,103 @@
+//! The field unit's call: a statement, a table and a line to the bytes after it. `engine` is the same call of the proved
+//! engine, where its archive is linked.
+
+use crate::parsing::{parse, Entry};
+use crate::refusal::{refuse_if, Refusal};
+use crate::statement;
+use crate::tables::Table;
+
+/// Statement, table, line and output; the bytes written, or a refusal's number with a minus sign.
+pub type Call = fn(&[u8], &[u8], &[u8], &mut [u8]) -> i64;
+
+/// Everything that refuses is weighed from the smallest number up: the line, the table, the statement, the state.
+pub fn account_line(statement: &[u8], table: &[u8], line: &[u8]) -> Result<Vec<u8>, Refusal> {
+    let entry = parse(line)?;
+    let mut table = Table::from_bytes(table)?;
+    if let Entry::Column { column, cells } = &entry {
+        table.extend(*column, cells)?;
+        statement::read(statement)?.apply(&entry, &table)?;
+        return Ok(table.to_bytes());
+    }
+    let mut holding = statement::read(statement)?;
+    let report = holding.apply(&entry, &table)?;
+    let mut out = statement::write(&holding);
+    if let Some(report) = report {
+        out.extend(format!("{report}\n").bytes());
+    }
+    Ok(out)
+}
+
+pub fn twin(statement: &[u8], table: &[u8], line: &[u8], out: &mut [u8]) -> i64 {
+    let written = account_line(statement, table, line).and_then(|result| {
+        refuse_if(result.len() > out.len(), Refusal::Room)?;
+        out[..result.len()].copy_from_slice(&result);
+        Ok(result.len())
+    });
+    match written {
+        Ok(length) => length as i64,
+        Err(refusal) => -i64::from(refusal.number()),
+    }
+}
+
+/// The twin's call for C, with the signature of the engine's `carbon_account_line`.
+///
+/// # Safety
+/// Each pointer is valid for its length; the output overlaps nothing else.
+#[no_mangle]
+pub unsafe extern "C" fn carbon_account_line_twin(
+    statement: *const u8,
+    statement_length: usize,
+    table: *const u8,
+    table_length: usize,
+    line: *const u8,
+    line_length: usize,
+    out: *mut u8,
+    out_length: usize,
+) -> i64 {
+    use std::slice::{from_raw_parts, from_raw_parts_mut};
+    twin(
+        from_raw_parts(statement, statement_length),
+        from_raw_parts(table, table_length),
+        from_raw_parts(line, line_length),
+        from_raw_parts_mut(out, out_length),
+    )
+}
+
+#[cfg(engine)]
+extern "C" {
+    fn carbon_account_line(
+        statement: *const u8,
+        statement_length: usize,
+        table: *const u8,
+        table_length: usize,
+        line: *const u8,
+        line_length: usize,
+        out: *mut u8,
+        out_length: usize,
+    ) -> i64;
+}
+
+#[cfg(engine)]
+fn engine(statement: &[u8], table: &[u8], line: &[u8], out: &mut [u8]) -> i64 {
+    // The slices give pointers valid for their lengths, and `out` is borrowed alone.
+    unsafe {
+        carbon_account_line(
+            statement.as_ptr(),
+            statement.len(),
+            table.as_ptr(),
+            table.len(),
+            line.as_ptr(),
+            line.len(),
+            out.as_mut_ptr(),
+            out.len(),
+        )
+    }
+}
+
+/// The engine's call, where this was built with its archive.
+pub fn engine_call() -> Option<Call> {
+    #[cfg(engine)]
+    return Some(engine);
+    #[cfg(not(engine))]
+    return None;
+}

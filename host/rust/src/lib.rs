@@ -1,0 +1,17 @@
+//! A second implementation of the carbon accounts, written from document 01 and the guide alone, to hold the proved
+//! engine against. It shares no code with the engine; only the sheet of default cells is the same file.
+
+pub mod call;
+pub mod forest;
+pub mod holding;
+pub mod listing;
+pub mod parcels;
+pub mod parsing;
+pub mod ranges;
+pub mod refusal;
+pub mod schedules;
+pub mod statement;
+pub mod steps;
+pub mod tables;
+pub mod trees;
+pub mod units;
