@@ -1,0 +1,145 @@
+/* A recorder's program: keeps an owner's statement and table in two files, and takes the lines of standard input.
+ *
+ *   field_unit STATEMENT TABLE < lines
+ *
+ * A file that is not there yet is the empty holding, or no table. For each line it prints the line's number and what
+ * came of it. Ends with 0 where every line was taken, 1 where one was refused, 2 where a file could not be read or kept.
+ */
+#define _POSIX_C_SOURCE 200809L
+#include "carbon_account.h"
+
+#include <errno.h>
+#include <inttypes.h>
+#include <stdio.h>
+#include <stdlib.h>
+#include <string.h>
+#include <unistd.h>
+
+struct kept {
+    const char *path;
+    size_t length;
+    uint8_t bytes[CARBON_OUT_BYTES];
+};
+
+static void fail(const char *path, const char *what)
+{
+    fprintf(stderr, "field_unit: %s: %s\n", path, what);
+    exit(2);
+}
+
+static void load(struct kept *kept, const char *path, const char *if_new)
+{
+    kept->path = path;
+    kept->length = strlen(if_new);
+    memcpy(kept->bytes, if_new, kept->length);
+    FILE *file = fopen(path, "rb");
+    if (file == NULL) {
+        if (errno != ENOENT)
+            fail(path, strerror(errno));
+        return;
+    }
+    kept->length = fread(kept->bytes, 1, sizeof kept->bytes, file);
+    if (ferror(file))
+        fail(path, "cannot be read");
+    if (kept->length == sizeof kept->bytes)
+        fail(path, "is too long");
+    fclose(file);
+}
+
+/* The file is whole at any moment: the new bytes go beside it and then take its place. */
+static void save(struct kept *kept, const uint8_t *bytes, size_t length)
+{
+    char beside[4096];
+    int named = snprintf(beside, sizeof beside, "%s.new", kept->path);
+    if (named < 0 || (size_t)named >= sizeof beside)
+        fail(kept->path, "has too long a name");
+    FILE *file = fopen(beside, "wb");
+    if (file == NULL)
+        fail(beside, strerror(errno));
+    int written = fwrite(bytes, 1, length, file) == length && fflush(file) == 0 && fsync(fileno(file)) == 0;
+    if (fclose(file) != 0 || !written || rename(beside, kept->path) != 0)
+        fail(kept->path, "cannot be kept");
+    memcpy(kept->bytes, bytes, length);
+    kept->length = length;
+}
+
+static const char *in_words(int64_t refusal)
+{
+    switch (refusal) {
+    case CARBON_FORM: return "the line has no entry's form";
+    case CARBON_NUMBER: return "areas are 1 to 999, sub-areas 1 to 99";
+    case CARBON_TYPE: return "this is no forest type that the entry takes";
+    case CARBON_HECTARES: return "hectares are 1 to 10000";
+    case CARBON_YEAR: return "the year is out of range, or does not go with the type";
+    case CARBON_TABLE: return "the table's columns, their order, lengths or cells are wrong";
+    case CARBON_ROOM: return "the output has no room";
+    case CARBON_STATEMENT: return "the statement file is damaged";
+    case CARBON_AREA_USED: return "the area's number is already used";
+    case CARBON_AREA_UNKNOWN: return "there is no such area";
+    case CARBON_AREA_WITHDRAWN: return "the area is withdrawn";
+    case CARBON_AREAS_FULL: return "sixteen areas stand";
+    case CARBON_SUB_USED: return "the sub-area's number is already used";
+    case CARBON_SUBS_FULL: return "sixteen sub-areas stand";
+    case CARBON_AREA_HAS_FILED: return "the area has filed a return and takes no more sub-areas";
+    case CARBON_SUB_UNKNOWN: return "there is no such sub-area";
+    case CARBON_CLEARING_BARE: return "there are no trees to clear";
+    case CARBON_PLANTING_UNDER: return "trees stand there already";
+    case CARBON_YEAR_TOO_EARLY: return "the year is filed already, or is before the latest clearing or planting";
+    case CARBON_PLANTED_AFTER: return "the trees are planted after the area opened";
+    case CARBON_TABLE_AFTER_AREA: return "the table is closed once an area stands";
+    default: return "an unknown refusal";
+    }
+}
+
+/* Where the report of a return or a withdrawal starts: the last line of the output. Elsewhere, its end. */
+static size_t report_start(char letter, const uint8_t *out, size_t length)
+{
+    if (letter != 'R' && letter != 'W')
+        return length;
+    size_t start = length - 1;
+    while (start > 0 && out[start - 1] != '\n')
+        start--;
+    return start;
+}
+
+/* Whether the line was taken. */
+static int take(struct kept *statement, struct kept *table, const char *line, size_t length, unsigned long number)
+{
+    uint8_t out[CARBON_OUT_BYTES];
+    int64_t answer = carbon_account_line(statement->bytes, statement->length, table->bytes, table->length,
+                                         (const uint8_t *)line, length, out, sizeof out);
+    if (answer < 0) {
+        printf("%lu: refused (%" PRId64 "): %s\n", number, -answer, in_words(-answer));
+        return 0;
+    }
+    size_t written = (size_t)answer;
+    size_t report = report_start(line[0], out, written);
+    if (line[0] == 'T')
+        save(table, out, written);
+    else
+        save(statement, out, report);
+    if (report < written)
+        printf("%lu: %.*s", number, (int)(written - report), (const char *)out + report);
+    else
+        printf("%lu: taken\n", number);
+    return 1;
+}
+
+int main(int count, char **words)
+{
+    if (count != 3) {
+        fprintf(stderr, "usage: field_unit STATEMENT TABLE < lines\n");
+        return 2;
+    }
+    static struct kept statement, table;
+    load(&statement, words[1], "H,0\n");
+    load(&table, words[2], "");
+    int all_taken = 1;
+    char *line = NULL;
+    size_t room = 0;
+    ssize_t length;
+    for (unsigned long number = 1; (length = getline(&line, &room, stdin)) > 0; number++)
+        all_taken &= take(&statement, &table, line, (size_t)length, number);
+    free(line);
+    return all_taken ? 0 : 1;
+}

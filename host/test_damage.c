@@ -1,0 +1,134 @@
+#include "test_damage.h"
+#include "carbon_account.h"
+#include "guarded.h"
+
+#include <stdio.h>
+#include <string.h>
+
+static const char small_statement[] = "H,1\nA,7,2010,2013,2011,0,2,85000,55,15,1\nS,1,100,D,2011,D,3,2011\n";
+static const uint8_t small_table[] = {0, 0, 2, 0, 0, 0, 0, 0, 0, 0, 0, 0, 1, 0, 0, 0, 0, 0, 0, 0, 0x30, 0x75, 45, 0, 80, 0};
+static const char small_line[] = "S,7,12,45.85,P3,1999\n";
+
+typedef void (*trial)(struct bytes damaged);
+
+static void in_every_value(const void *whole, size_t length, trial try)
+{
+    uint8_t damaged[128];
+    for (size_t place = 0; place < length; place++) {
+        memcpy(damaged, whole, length);
+        for (unsigned value = 0; value < 256; value++) {
+            damaged[place] = (uint8_t)value;
+            try((struct bytes){damaged, length});
+        }
+    }
+}
+
+static void cut_short(const void *whole, size_t length, trial try)
+{
+    for (size_t kept = 0; kept < length; kept++)
+        try((struct bytes){whole, kept});
+}
+
+static void longer_by_a_byte(const void *whole, size_t length, trial try)
+{
+    static const uint8_t more[] = {0, 1, '\n', '\r', ' ', '+', ',', '-', '.', '0', '1', '9', 'A', 'B', 'S', 0xFF};
+    uint8_t damaged[128];
+    for (size_t place = 0; place <= length; place++) {
+        memcpy(damaged, whole, place);
+        memcpy(damaged + place + 1, (const uint8_t *)whole + place, length - place);
+        for (size_t i = 0; i < sizeof more; i++) {
+            damaged[place] = more[i];
+            try((struct bytes){damaged, length + 1});
+        }
+    }
+}
+
+static void in_every_way(const void *whole, size_t length, trial try)
+{
+    in_every_value(whole, length, try);
+    cut_short(whole, length, try);
+    longer_by_a_byte(whole, length, try);
+}
+
+static bool is_one_of(int64_t value, const int *refusals, size_t count)
+{
+    for (size_t i = 0; i < count; i++)
+        if (value == -refusals[i])
+            return true;
+    return false;
+}
+
+static const struct bytes no_table = {(const uint8_t *)"", 0};
+
+/* A statement of one area that is read comes back byte for byte, with the area that is opened. */
+static void open_beside(struct bytes statement)
+{
+    static const char opened[] = "A,900,2199,2199,0,0,0,0,0,0,0\n";
+    size_t last = sizeof opened - 1;
+    struct answer answer = guarded_call(statement, no_table, text("A,900,2199"), CARBON_OUT_BYTES);
+    if (answer.value == -CARBON_STATEMENT)
+        return;
+    expect(answer.value == (int64_t)(statement.length + last), "a damaged statement is 11 or taken");
+    if (answer.value < 0)
+        return;
+    expect(memcmp(answer.out, "H,2\n", 4) == 0 && memcmp(answer.out + 4, statement.at + 4, statement.length - 4) == 0 &&
+               memcmp(answer.out + statement.length, opened, last) == 0,
+           "a statement that is read writes back the same");
+}
+
+static void file_on_statement(struct bytes statement)
+{
+    static const int may_be[] = {CARBON_STATEMENT, CARBON_AREA_UNKNOWN, CARBON_AREA_WITHDRAWN, CARBON_YEAR_TOO_EARLY};
+    int64_t value = guarded_call(statement, no_table, text("R,7,2100"), CARBON_OUT_BYTES).value;
+    expect(value > 0 || is_one_of(value, may_be, sizeof may_be / sizeof may_be[0]), "a return on a damaged statement");
+}
+
+static unsigned number_at(struct bytes table, size_t index)
+{
+    return table.at[2 * index] + 256u * table.at[2 * index + 1];
+}
+
+static bool is_table(struct bytes table)
+{
+    if (table.length == 0)
+        return true;
+    if (table.length % 2 != 0 || table.length < 20)
+        return false;
+    size_t cells = 0;
+    for (size_t column = 0; column < 10; column++) {
+        if (number_at(table, column) > 101)
+            return false;
+        cells += number_at(table, column);
+    }
+    if (table.length != 20 + 2 * cells)
+        return false;
+    for (size_t cell = 10; cell < 10 + cells; cell++)
+        if (number_at(table, cell) > 30000)
+            return false;
+    return true;
+}
+
+static void file_on_table(struct bytes table)
+{
+    int64_t value = guarded_call(text(small_statement), table, text("R,7,2100"), CARBON_OUT_BYTES).value;
+    expect(is_table(table) ? value > 0 : value == -CARBON_TABLE, "a return on a damaged table");
+}
+
+static void enter_line(struct bytes line)
+{
+    static const int may_be[] = {CARBON_FORM,         CARBON_NUMBER,   CARBON_TYPE,     CARBON_HECTARES,
+                                 CARBON_YEAR,         CARBON_TABLE,    CARBON_AREA_USED, CARBON_AREA_UNKNOWN,
+                                 CARBON_PLANTED_AFTER};
+    const char *statement = "H,1\nA,7,2010,2010,0,0,0,0,0,0,0\n";
+    int64_t value = guarded_call(text(statement), no_table, line, CARBON_OUT_BYTES).value;
+    expect(value > 0 || is_one_of(value, may_be, sizeof may_be / sizeof may_be[0]), "a damaged line");
+}
+
+void test_damage(void)
+{
+    struct bytes statement = text(small_statement), line = text(small_line);
+    in_every_way(statement.at, statement.length, open_beside);
+    in_every_way(statement.at, statement.length, file_on_statement);
+    in_every_way(small_table, sizeof small_table, file_on_table);
+    in_every_way(line.at, line.length, enter_line);
+}
