@@ -11,6 +11,8 @@ pub enum Forest {
 
 pub const BARE: &[u8] = b"B";
 
+const CODES: [&str; 13] = ["P1", "P2", "P3", "P4", "P5", "P6", "P7", "P8", "P9", "D", "S", "H", "N"];
+
 impl Forest {
     pub const ALL: [Forest; 13] = [
         Forest::Radiata { region: 1 },
@@ -28,19 +30,14 @@ impl Forest {
         Forest::Indigenous,
     ];
 
-    pub fn code(self) -> String {
-        match self {
-            Forest::Radiata { region } => format!("P{region}"),
-            Forest::DouglasFir => "D".into(),
-            Forest::Softwoods => "S".into(),
-            Forest::Hardwoods => "H".into(),
-            Forest::Indigenous => "N".into(),
-        }
+    pub fn code(self) -> &'static str {
+        CODES[self.place()]
     }
 
     /// The forest type of a code; bare land has none.
     pub fn of_code(code: &[u8]) -> Option<Forest> {
-        Forest::ALL.into_iter().find(|forest| forest.code().as_bytes() == code)
+        let place = CODES.iter().position(|known| known.as_bytes() == code)?;
+        Some(Forest::ALL[place])
     }
 
     /// The place among a participant's five columns of a kind: P, D, S, H, N.

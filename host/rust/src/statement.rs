@@ -31,11 +31,10 @@ fn write_area(text: &mut String, area: &Area) {
 
 fn write_sub(text: &mut String, sub: &Sub) {
     let Sub { number, tenths, .. } = sub;
-    let trees = sub.trees.map_or("B,0".into(), |trees| format!("{},{}", trees.forest.code(), trees.planted));
-    let residue = sub
-        .residue
-        .map_or("B,0,0".into(), |residue| format!("{},{},{}", residue.forest.code(), residue.age, residue.year));
-    writeln!(text, "S,{number},{tenths},{trees},{residue}").expect("a string takes any text");
+    let (forest, planted) = sub.trees.map_or(("B", 0), |trees| (trees.forest.code(), trees.planted));
+    let (left, age, year) =
+        sub.residue.map_or(("B", 0, 0), |residue| (residue.forest.code(), residue.age, residue.year));
+    writeln!(text, "S,{number},{tenths},{forest},{planted},{left},{age},{year}").expect("a string takes any text");
 }
 
 pub fn read(bytes: &[u8]) -> Result<Holding, Refusal> {

@@ -167,3 +167,22 @@ fn the_longest_statement_has_9301_bytes() {
     assert!(is_read(&String::from_utf8(written.clone()).unwrap()));
     assert_eq!(statement::read(&written), Ok(largest()));
 }
+
+/// The header's CARBON_OUT_BYTES.
+#[test]
+fn the_longest_answer_has_at_most_9365_bytes() {
+    let mut holding = largest();
+    for area in &mut holding.areas {
+        area.withdrawn = false;
+        area.open_year = 2199;
+        area.returns = 191;
+        area.received = 190_000_000_000;
+        area.surrendered = 0;
+    }
+    for (name, call) in calls() {
+        let withdrawn = answer(call, &statement::write(&holding), &[], b"W,999").expect("W is taken");
+        assert!(withdrawn.ends_with(b"W,999,190000000000\n"), "{name}");
+        let filed = answer(call, &statement::write(&holding), &[], b"R,999,2199").expect("R is taken");
+        assert!((9_301..=9_365).contains(&filed.len()), "{name}: {}", filed.len());
+    }
+}

@@ -1,0 +1,54 @@
+//! Whole books: what a program prints for them, against the twin's listing.
+
+use crate::cases::Cases;
+use crate::random::Random;
+use carbon_twin::listing::book;
+use carbon_twin::ranges::BOOK_BYTES;
+use std::io::Write;
+use std::process::{Command, Stdio};
+
+pub fn compare(program: &str, books: u64, seed: u64) -> Result<String, String> {
+    let mut random = Random::new(seed);
+    for number in 1..=books {
+        let text = a_book(&mut random);
+        let printed = run(program, &text).map_err(|problem| format!("{program}: {problem}"))?;
+        let expected = book(&text);
+        if printed != expected.as_bytes() {
+            let (text, printed) = (text.escape_ascii(), printed.escape_ascii());
+            return Err(format!(
+                "book {number} of seed {seed} differs\n  book     \"{text}\"\n  printed  \"{printed}\"\n  expected \"{}\"",
+                expected.escape_default()
+            ));
+        }
+    }
+    Ok(format!("{program}: {books} books listed alike, seed {seed}"))
+}
+
+/// The lines of a run of cases, some of them damaged; at times cut or grown to the greatest length of a book.
+fn a_book(random: &mut Random) -> Vec<u8> {
+    let lines = *random.pick(&[0, 3, 30, 300, 300]);
+    let mut cases = Cases::of_one_book(random.next(), lines);
+    let mut text = Vec::new();
+    for _ in 0..lines {
+        let line = cases.next_line();
+        text.extend(line.strip_suffix(b"\n").unwrap_or(&line));
+        text.push(b'\n');
+    }
+    match random.below(20) {
+        0 => text.resize(BOOK_BYTES, b'\n'),
+        1 => text.resize(BOOK_BYTES + 1, b'\n'),
+        2 => drop(text.pop()),
+        _ => {}
+    }
+    text
+}
+
+fn run(program: &str, text: &[u8]) -> std::io::Result<Vec<u8>> {
+    let mut child = Command::new(program).stdin(Stdio::piped()).stdout(Stdio::piped()).spawn()?;
+    let mut stdin = child.stdin.take().expect("its standard input is piped");
+    let output = std::thread::scope(|scope| {
+        scope.spawn(move || stdin.write_all(text).ok());
+        child.wait_with_output()
+    })?;
+    Ok(output.stdout)
+}

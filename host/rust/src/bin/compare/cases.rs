@@ -1,0 +1,125 @@
+//! The cases of a run: books taken line by line, holdings made up at the edges, and each of them damaged.
+
+use crate::case::{Case, FULL_ROOM};
+use crate::lines::{line, mood, Mood};
+use crate::random::Random;
+use crate::{damage, holdings, tables};
+use carbon_twin::call::account_line;
+use carbon_twin::holding::Holding;
+use carbon_twin::statement;
+
+pub struct Cases {
+    random: Random,
+    book: Book,
+}
+
+/// A book that is being taken: what the recorder keeps, and how many lines are still to come.
+struct Book {
+    mood: Mood,
+    holding: Holding,
+    table: Vec<u8>,
+    lines_left: usize,
+}
+
+impl Book {
+    fn new(random: &mut Random) -> Book {
+        let table = if random.one_in(2) { Vec::new() } else { tables::table(random) };
+        let holding = if random.one_in(4) { holdings::holding(random) } else { Holding::default() };
+        Book { mood: mood(random), holding, table, lines_left: 10 + random.below(200) }
+    }
+}
+
+impl Cases {
+    pub fn new(seed: u64) -> Cases {
+        let mut random = Random::new(seed);
+        let book = Book::new(&mut random);
+        Cases { random, book }
+    }
+
+    /// A book from the empty holding without a table, of so many lines.
+    pub fn of_one_book(seed: u64, lines: usize) -> Cases {
+        let mut random = Random::new(seed);
+        let mood = mood(&mut random);
+        let book = Book { mood, holding: Holding::default(), table: Vec::new(), lines_left: lines };
+        Cases { random, book }
+    }
+
+    pub fn next(&mut self) -> Case {
+        let mut case = if self.random.one_in(4) { self.made_up() } else { self.next_of_book() };
+        match self.random.below(8) {
+            0 => case.line = damage::damaged(&mut self.random, &case.line),
+            1 => case.statement = damage::damaged(&mut self.random, &case.statement),
+            2 if self.random.one_in(3) => case.table = tables::damaged(&mut self.random, &case.table),
+            3 if self.random.one_in(3) => case.statement = self.junk(),
+            4 => case.room = self.room(&case),
+            _ => {}
+        }
+        case
+    }
+
+    /// The next line of a book that is taken from its start, at times damaged.
+    pub fn next_line(&mut self) -> Vec<u8> {
+        let line = self.next_of_book().line;
+        if self.random.one_in(8) {
+            damage::damaged(&mut self.random, &line)
+        } else {
+            line
+        }
+    }
+
+    /// The next line of the book, which is then taken: damage is done to a copy.
+    fn next_of_book(&mut self) -> Case {
+        if self.book.lines_left == 0 {
+            self.book = Book::new(&mut self.random);
+        }
+        let book = &mut self.book;
+        book.lines_left -= 1;
+        let line = line(&mut self.random, &book.mood, &book.holding);
+        let statement = statement::write(&book.holding);
+        let case = Case { statement, table: book.table.clone(), line, room: FULL_ROOM };
+        match account_line(&case.statement, &case.table, &case.line) {
+            Ok(longer) if case.letter() == 'T' => book.table = longer,
+            Ok(out) => book.holding = statement::read(statement_part(&case, &out)).expect("what is written is read"),
+            Err(_) => {}
+        }
+        case
+    }
+
+    fn made_up(&mut self) -> Case {
+        let random = &mut self.random;
+        let holding = holdings::holding(random);
+        let mood = mood(random);
+        let line = line(random, &mood, &holding);
+        Case { statement: statement::write(&holding), table: tables::table(random), line, room: FULL_ROOM }
+    }
+
+    fn junk(&mut self) -> Vec<u8> {
+        let length = self.random.below(12);
+        let junk: Vec<u8> = (0..length).map(|_| self.random.next() as u8).collect();
+        if self.random.one_in(2) {
+            junk
+        } else {
+            damage::damaged(&mut self.random, b"H,0\n")
+        }
+    }
+
+    /// Too little, just enough, or a little more.
+    fn room(&mut self, case: &Case) -> usize {
+        let need = account_line(&case.statement, &case.table, &case.line).map_or(0, |out| out.len());
+        match self.random.below(4) {
+            0 => need.saturating_sub(1),
+            1 => need,
+            2 => self.random.below(need + 1),
+            _ => need + self.random.below(9),
+        }
+    }
+}
+
+/// The output without the report at its end.
+fn statement_part<'a>(case: &Case, out: &'a [u8]) -> &'a [u8] {
+    if !matches!(case.letter(), 'R' | 'W') {
+        return out;
+    }
+    let report = out[..out.len() - 1].iter().rposition(|&byte| byte == b'\n').expect("a statement comes first");
+    &out[..=report]
+}

@@ -1,0 +1,133 @@
+//! Small statements and lines, each field of them in turn at every value where a rule changes.
+
+use crate::case::{Case, FULL_ROOM};
+
+const STATEMENTS: [&str; 4] = [
+    "H,0\n",
+    "H,1\nA,7,2010,2010,2012,0,0,45000,0,0,1\nS,1,100,D,2008,B,0,0\n",
+    "H,1\nA,7,2010,2013,2011,0,2,85000,55,15,2\nS,1,100,D,2011,D,3,2011\nS,2,10,B,0,B,0,0\n",
+    "H,2\nA,7,2198,2200,0,1,1,0,5,5,0\nA,8,2008,2008,0,0,0,0,0,0,0\n",
+];
+
+const LINES: [&str; 10] = [
+    "T,R,N,1,2.5",
+    "A,9,2010",
+    "S,7,3,10.04,D,2008",
+    "S,8,1,1,B,0",
+    "C,7,1,2013",
+    "P,7,2,P1,2013",
+    "R,7,2013",
+    "R,8,2008",
+    "W,7",
+    "W,8",
+];
+
+const VALUES: [&str; 81] = [
+    "",
+    "0",
+    "00",
+    "01",
+    "1",
+    "+1",
+    "-1",
+    "1.",
+    ".5",
+    "0.5",
+    "0.9999",
+    "0.99999",
+    "1.0",
+    "1.05",
+    "1.25",
+    "2",
+    "3",
+    "4",
+    "5",
+    "7",
+    "8",
+    "9",
+    "10",
+    "15",
+    "16",
+    "17",
+    "54",
+    "55",
+    "56",
+    "98",
+    "99",
+    "100",
+    "101",
+    "299",
+    "300",
+    "998",
+    "999",
+    "1000",
+    "1899",
+    "1900",
+    "2007",
+    "2008",
+    "2009",
+    "2010",
+    "2011",
+    "2012",
+    "2013",
+    "2014",
+    "2198",
+    "2199",
+    "2200",
+    "2201",
+    "3000",
+    "3000.0",
+    "3000.1",
+    "9999.95",
+    "10000",
+    "10000.0001",
+    "99999",
+    "100000",
+    "100001",
+    "999999",
+    "1000000",
+    "1000000000",
+    "1000000001",
+    "2000000000",
+    "2000000001",
+    "60000000000",
+    "60000000001",
+    "120000000000",
+    "120000000001",
+    "18446744073709551616",
+    "B",
+    "P",
+    "P1",
+    "P9",
+    "D",
+    "S",
+    "N",
+    "G",
+    "R",
+];
+
+pub fn cases() -> impl Iterator<Item = Case> {
+    STATEMENTS.into_iter().flat_map(|statement| LINES.into_iter().flat_map(move |line| around(statement, line)))
+}
+
+fn around(statement: &'static str, line: &'static str) -> impl Iterator<Item = Case> {
+    let statements = variants(statement).map(move |statement| (statement, line.to_string()));
+    let lines = variants(line).map(move |line| (statement.to_string(), line));
+    statements.chain(lines).map(|(statement, line)| Case {
+        statement: statement.into_bytes(),
+        table: Vec::new(),
+        line: line.into_bytes(),
+        room: FULL_ROOM,
+    })
+}
+
+/// The text with one field replaced by one of the values.
+fn variants(text: &'static str) -> impl Iterator<Item = String> {
+    let mut end = 0;
+    text.split([',', '\n']).flat_map(move |field| {
+        let start = end;
+        end += field.len() + 1;
+        let after = start + field.len();
+        VALUES.into_iter().map(move |value| format!("{}{value}{}", &text[..start], &text[after..]))
+    })
+}

@@ -1,0 +1,51 @@
+//! Holdings that a statement carries, with every field at the edges of its range as often as not.
+
+use crate::random::Random;
+use carbon_twin::forest::Forest;
+use carbon_twin::holding::{Area, Holding, Residue, Sub, Trees};
+
+pub fn holding(random: &mut Random) -> Holding {
+    let most = *random.pick(&[0, 1, 1, 2, 3, 16]);
+    let numbers = distinct(random, most, 999);
+    Holding { areas: numbers.into_iter().map(|number| area(random, number)).collect() }
+}
+
+fn distinct(random: &mut Random, most: usize, greatest: u64) -> Vec<u64> {
+    let mut numbers = Vec::new();
+    while numbers.len() < most {
+        let number = random.within(1..=greatest);
+        if !numbers.contains(&number) {
+            numbers.push(number);
+        }
+    }
+    numbers
+}
+
+fn area(random: &mut Random, number: u64) -> Area {
+    let opening = random.within(2008..=2199);
+    let open_year = if random.one_in(2) { opening } else { random.within(opening..=2200) };
+    let returns = if open_year == opening { 0 } else { random.within(1..=open_year - opening) };
+    let latest_year = if random.one_in(3) { 0 } else { random.within(2008..=2199) };
+    let received = random.within(0..=1_000_000_000 * returns);
+    let withdrawn = random.one_in(6);
+    let surrendered = if withdrawn { received } else { random.within(0..=received) };
+    let most = *random.pick(&[0, 1, 2, 3, 5, 16]);
+    let numbers = distinct(random, most, 99);
+    let subs: Vec<Sub> = numbers.into_iter().map(|number| sub(random, number, opening, latest_year)).collect();
+    let stock = random.within(0..=60_000_000_000 * subs.len() as u64);
+    Area { number, opening, open_year, latest_year, withdrawn, returns, stock, received, surrendered, subs }
+}
+
+fn sub(random: &mut Random, number: u64, opening: u64, latest_year: u64) -> Sub {
+    let tenths = random.within(10..=100_000);
+    let forest = *random.pick(&Forest::ALL);
+    let planted = random.within(1900..=opening.max(latest_year));
+    let trees = (!random.one_in(3)).then_some(Trees { forest, planted });
+    let has_residue = latest_year >= opening && !random.one_in(3);
+    let residue = has_residue.then(|| Residue {
+        forest: *random.pick(&Forest::ALL),
+        age: random.within(0..=299),
+        year: random.within(opening..=latest_year),
+    });
+    Sub { number, tenths, trees, residue }
+}

@@ -1,0 +1,100 @@
+//! Holds the engine's call against the twin's, on seeded cases.
+//!
+//!   compare [--calls N] [--seed N]      the engine against the twin; built with ENGINE_ARCHIVE
+//!   compare --with-itself ..            the twin against itself, which tries only the cases
+//!   compare --book PROGRAM [--books N]  a program's listings against the twin's
+//!
+//! A difference is printed as the smallest case found, and ends the run with 1.
+
+mod books;
+mod case;
+mod cases;
+mod damage;
+mod edges;
+mod holdings;
+mod lines;
+mod options;
+mod random;
+mod shrink;
+mod tables;
+mod tally;
+#[cfg(test)]
+mod tests;
+
+use carbon_twin::call::{engine_call, twin, Call};
+use case::{Case, Outcome};
+use cases::Cases;
+use options::Options;
+use std::process::ExitCode;
+use std::time::Instant;
+use tally::Tally;
+
+/// Below so many calls, an answer may well be missing by chance.
+const ENOUGH_FOR_EVERY_ANSWER: u64 = 100_000;
+
+fn main() -> ExitCode {
+    let options = match Options::read(std::env::args().skip(1)) {
+        Ok(options) => options,
+        Err(problem) => return failed(&problem),
+    };
+    if let Some(program) = &options.book {
+        return match books::compare(program, options.books, options.seed) {
+            Ok(said) => passed(&said),
+            Err(problem) => failed(&problem),
+        };
+    }
+    let (name, call): (&str, Call) = match (options.with_itself, engine_call()) {
+        (true, _) => ("the twin with itself", twin),
+        (false, Some(engine)) => ("the engine with the twin", engine),
+        (false, None) => {
+            return failed("built without ENGINE_ARCHIVE: there is no engine to compare; see --with-itself")
+        }
+    };
+    let started = Instant::now();
+    match compare(call, twin, options.calls, options.seed) {
+        Err(problem) => failed(&problem),
+        Ok(tally) if options.calls >= ENOUGH_FOR_EVERY_ANSWER && !tally.missing().is_empty() => {
+            failed(&format!("{tally}\nnever met: {}", tally.missing().join(", ")))
+        }
+        Ok(tally) => {
+            let (calls, seed, seconds) = (tally.calls(), options.seed, started.elapsed().as_secs_f64());
+            passed(&format!("{name}: {calls} calls alike, seed {seed}, {seconds:.1} s\n{tally}"))
+        }
+    }
+}
+
+fn passed(said: &str) -> ExitCode {
+    println!("{said}");
+    ExitCode::SUCCESS
+}
+
+fn failed(problem: &str) -> ExitCode {
+    eprintln!("compare: {problem}");
+    ExitCode::FAILURE
+}
+
+/// Counts the answers where all are alike; else says where the two part, on the smallest case found. The edges come
+/// first, then so many calls of the seed.
+fn compare(one: Call, other: Call, calls: u64, seed: u64) -> Result<Tally, String> {
+    let mut seeded = Cases::new(seed);
+    let seeded = (0..calls).map(|_| seeded.next());
+    let mut tally = Tally::default();
+    for case in edges::cases().chain(seeded) {
+        let outcome = case.run(one);
+        if differ(&outcome, &case.run(other)) {
+            let smallest = shrink::shrink(case, &|case| differ(&case.run(one), &case.run(other)));
+            return Err(describe(&smallest, one, other));
+        }
+        tally.count(&case, outcome.answer);
+    }
+    Ok(tally)
+}
+
+fn differ(one: &Outcome, other: &Outcome) -> bool {
+    one != other || one.touches_more()
+}
+
+fn describe(case: &Case, one: Call, other: Call) -> String {
+    let (first, second) = (case.run(one), case.run(other));
+    format!("the answers differ; the smallest case found is\n{case}\n  answers   {first}\n  twin      {second}")
+}
