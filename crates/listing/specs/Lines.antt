@@ -1,5 +1,5 @@
 -- A book's lines: "a line ends with byte 10 (the last may lack it)".
-use Prim.Native.Nat.{ℕ}
+use Prim.Native.Nat.{ℕ, zero, suc}
 use mathlib.Core.Bool.{cond}
 use mathlib.Core.List.{List, [], _∷_}
 use lib.Dec.{eqb}
@@ -9,3 +9,8 @@ use Rattle.text.specs.Fields.{extend}
 unfoldable pub linesOf : List ℕ → List (List ℕ)
 linesOf [] = []
 linesOf (b ∷ bs) = cond (eqb b 10) ([] ∷ linesOf bs) (extend b (linesOf bs))
+
+-- how many bytes stand before the first line's end
+unfoldable pub lineWidth : List ℕ → ℕ
+lineWidth [] = zero
+lineWidth (b ∷ bs) = cond (eqb b 10) zero (suc (lineWidth bs))

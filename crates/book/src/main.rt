@@ -1,0 +1,20 @@
+// Lists the book on standard input.
+use libc::STDIN_FILENO;
+use libc::STDOUT_FILENO;
+
+// A byte more than the longest book has, to see that a book is longer.
+fn room_for_book() -> [u8; 65537] {
+    [0u8; 65537]
+}
+
+fn room_for_listing() -> [u8; 720921] {
+    [0u8; 720921]
+}
+
+fn main() {
+    let mut book = room_for_book();
+    let length = io::read_full(STDIN_FILENO, &mut book);
+    let mut listing = room_for_listing();
+    let count = books::list_whole(&book[..length], &mut listing);
+    io::write_all(STDOUT_FILENO, &listing[..count]);
+}

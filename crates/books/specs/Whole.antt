@@ -1,0 +1,12 @@
+-- Bytes written whole, where there is room for any.
+use Prim.Native.Nat.{ℕ, _≤_}
+use mathlib.Core.Path.{_≡_}
+use mathlib.Core.List.{List, _++_}
+use lib.ListN.{length, take, drop}
+
+-- the bytes at the front of a buffer, what follows as it was, and how many they are, by which a caller takes that part
+pub record Whole (bytes buffer after : List ℕ) (n : ℕ) : Type 0 where
+  pub count : n ≡ length bytes
+  pub stored : after ≡ bytes ++ drop n buffer
+  pub fits : n ≤ length after
+  pub part : n ≡ length (take n after)

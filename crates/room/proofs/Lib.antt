@@ -1,0 +1,6 @@
+pub mod Tables
+pub mod Texts
+pub mod Widths
+pub mod Reports
+pub mod Runs
+pub mod Bound

@@ -1,0 +1,1 @@
+// Room for any listing. No code.

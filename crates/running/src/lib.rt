@@ -1,0 +1,62 @@
+// Runs a book line by line, on one holding and one table, and puts its listing.
+ghost use Prim.Native.Nat.{_≤_};
+ghost use lib.ListN.{length};
+ghost use Rattle.text.specs.Writing.{Wrote};
+ghost use Rattle.listing.specs.Lines.{linesOf};
+ghost use Rattle.listing.specs.Listing.{start, listFrom, listingOf};
+use holding::Found;
+use refusals::Refusal;
+
+// The longest book, in bytes.
+const LONGEST: usize = 65536;
+
+// Puts the listing of a book that is not too long; the answer, here and below, is the place after what was put.
+fn put_lines(book: &[u8], out: &mut [u8]) -> usize
+    requires { ⌜ length (now book) ≤ 65536 ⌝ }
+    ensures { λ r. ⌜ Wrote (now (out .entry)) 0 (listFrom start (linesOf (now (book .entry)))) (now (out .exit)) r ⌝ }
+{
+    let default = schedules::schedule_six();
+    let mut holding = holding::empty_holding();
+    let mut table = [0u16; 1020];
+    let mut count: usize = 0;
+    let mut accepted: u64 = 0;
+    let mut refused: u64 = 0;
+    let mut at: usize = 0;
+    let mut i: usize = 0;
+    while i < book.len() {
+        let end = listing::end_of(book, i);
+        let turn = taking::take(&table[0..count], &default, holding, &book[i..end]);
+        let outcome = turn.outcome;
+        at = listing::put_line(out, at, accepted + refused + 1, outcome);
+        let verdict = outcome.verdict;
+        let taken = listing::counted(verdict);
+        accepted += taken;
+        refused += 1 - taken;
+        let place = outcome.place;
+        if let Found::At(k) = place {
+            let area = outcome.area;
+            if k < 16 {
+                holding.areas[k] = area;
+            }
+            holding.count = outcome.count;
+        }
+        if turn.count != 0 {
+            count = turn.count;
+            let numbers = turn.numbers;
+            table = numbers;
+        }
+        i = end + 1;
+    }
+    printing::put_end(out, at, accepted, refused)
+}
+
+// Puts the listing of any book.
+pub fn put_listing(book: &[u8], out: &mut [u8]) -> usize
+    ensures { λ r. ⌜ Wrote (now (out .entry)) 0 (listingOf (now (book .entry))) (now (out .exit)) r ⌝ }
+{
+    if LONGEST < book.len() {
+        let next = printing::put_refusal(out, 0, 0, Refusal::Form);
+        return printing::put_end(out, next, 0, 1);
+    }
+    put_lines(book, out)
+}

@@ -1,0 +1,12 @@
+-- `taking::stay` meets its contract: what it makes is the definition's.
+use mathlib.Core.Path.{refl}
+use Rattle.taking.specs.Turns.{stayed}
+use Rattle.taking.proofs.stay.Statement.{statement}
+use Rattle.taking.proofs.stay.Tie as tie
+
+returns : tie.Need-returns
+unfolding stayed
+returns c = refl
+
+pub stay-spec : {M : Type 1} → statement M
+stay-spec = tie.close (tie.spec returns)

@@ -1,0 +1,27 @@
+-- `taking::take_column` meets its contract, by the verdict of the table that grows.
+use Rattle.taking.proofs.Laws.{column-turned, column-taken}
+use borrow.Author.Needs.{needs}
+use Rattle.taking.proofs.take_column.Statement.{statement}
+use Rattle.taking.proofs.take_column.Tie as tie
+
+returns : tie.Need-returns
+returns c =
+    let g = c .before .before .before .before in
+    column-turned _ _ _ _ _ _ _ (c .turned .ensures) (g .grow .ensures) (c .before .before .verdict .given .1)
+
+returns-2 : tie.Need-returns-2
+returns-2 c =
+    let told = c .before .before in
+    column-taken _ _ _ _ (told .before .before .grow .ensures) (told .enum-told .given .1) (c .before .empty-area .ensures)
+
+pub take-column-spec : {M : Type 1} → statement M
+take-column-spec =
+    tie.close
+    (tie.spec
+    (λ c κs. search needs)
+    (λ c. search needs)
+    (λ c κs. search needs)
+    (λ c. search needs)
+    (λ c κs. search needs)
+    returns
+    returns-2)

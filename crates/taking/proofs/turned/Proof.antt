@@ -1,0 +1,12 @@
+-- `taking::turned` meets its contract, by what it calls.
+use mathlib.Core.Path.{ap, _∙_}
+use Rattle.taking.specs.Turns.{stayed}
+use borrow.Author.Needs.{needs}
+use Rattle.taking.proofs.turned.Statement.{statement}
+use Rattle.taking.proofs.turned.Tie as tie
+
+returns : tie.Need-returns
+returns c = c .stay .ensures ∙ ap stayed (c .before .turned .ensures)
+
+pub turned-spec : {M : Type 1} → statement M
+turned-spec = tie.close (tie.spec (λ c κs. search needs) (λ c κs. search needs) returns)
