@@ -1,5 +1,5 @@
 -- "The field unit's own program, written in C, calls the engine with a statement, a table, a line and an output buffer."
-use Prim.Native.Nat.{ℕ, _/_, _%_}
+use Prim.Native.Nat.{ℕ}
 use mathlib.Core.Bool.{cond, not}
 use mathlib.Core.List.{List, [], _∷_, _++_}
 use lib.Dec.{ltb, leb}
@@ -18,13 +18,14 @@ use Rattle.entries.specs.declared.Parsed.{Parsed}
 use Rattle.entries.specs.declared.Parsed.the-variants.{Taken, Turned}
 use Rattle.lines.specs.Lines.{entryOf}
 use Rattle.holding.specs.declared.Holding.{Holding}
+use Rattle.holding.specs.declared.Found.{Found}
+use Rattle.holding.specs.declared.Found.the-variants.{At, Nowhere}
 use Rattle.outcomes.specs.declared.Outcome.{Outcome}
 use Rattle.outcomes.specs.Outcomes.{placed}
-use Rattle.format.specs.Format.{statementOf}
 use Rattle.statement.specs.Statement.{readOf}
 use Rattle.growing.specs.Growing.{longerBy}
-use Rattle.printing.specs.Printing.{reportText}
-use Rattle.listing.specs.Listing.{lineTaken}
+use Rattle.outputs.specs.Outputs.{tableBytes, reportedBytes}
+use Rattle.listing.specs.Listing.{entryTaken, lineTaken}
 
 -- what refuses the line itself
 abbrev pub lineVerdict : Parsed → Verdict
@@ -50,24 +51,27 @@ callVerdict statement table line =
     (smaller (read .verdict)
     (lineTaken (numbersOf table) (read .holding) line .verdict)))
 
--- "two bytes a number, low byte first"
-unfoldable pub tableBytes : List ℕ → List ℕ
-tableBytes [] = []
-tableBytes (n ∷ numbers) = n % 256 ∷ n / 256 ∷ tableBytes numbers
+-- the column of a T entry; every other entry is a step of the holding
+abbrev pub columnOf : Entry → Found
+columnOf (Column column cells) = At column
+columnOf (Open area opening) = Nowhere
+columnOf (Add area sub land forest year) = Nowhere
+columnOf (Clear area sub year) = Nowhere
+columnOf (Plant area sub forest year) = Nowhere
+columnOf (File area last) = Nowhere
+columnOf (Withdraw area) = Nowhere
 
 -- "The output takes the new statement, then what `book` prints for an accepted R or W"
 abbrev pub stateBytes : Holding → Outcome → List ℕ
-stateBytes holding outcome = statementOf (placed holding outcome) ++ reportText (outcome .report)
+stateBytes holding outcome = reportedBytes (placed holding outcome) (outcome .report)
 
 -- "for T it takes the longer table instead"
-abbrev pub entryBytes : List ℕ → Holding → List ℕ → Entry → List ℕ
-entryBytes own holding line (Column column cells) = tableBytes (longerBy own line column)
-entryBytes own holding line (Open area opening) = stateBytes holding (lineTaken own holding line)
-entryBytes own holding line (Add area sub land forest year) = stateBytes holding (lineTaken own holding line)
-entryBytes own holding line (Clear area sub year) = stateBytes holding (lineTaken own holding line)
-entryBytes own holding line (Plant area sub forest year) = stateBytes holding (lineTaken own holding line)
-entryBytes own holding line (File area last) = stateBytes holding (lineTaken own holding line)
-entryBytes own holding line (Withdraw area) = stateBytes holding (lineTaken own holding line)
+abbrev pub foundBytes : List ℕ → Holding → List ℕ → Entry → Found → List ℕ
+foundBytes own holding line entry (At column) = tableBytes (longerBy own line column)
+foundBytes own holding line entry Nowhere = stateBytes holding (entryTaken own holding line entry)
+
+unfoldable pub entryBytes : List ℕ → Holding → List ℕ → Entry → List ℕ
+entryBytes own holding line entry = foundBytes own holding line entry (columnOf entry)
 
 abbrev pub parsedBytes : List ℕ → Holding → List ℕ → Parsed → List ℕ
 parsedBytes own holding line (Taken entry) = entryBytes own holding line entry
@@ -77,9 +81,11 @@ unfoldable pub callBytes : List ℕ → List ℕ → List ℕ → List ℕ
 callBytes statement table line = parsedBytes (numbersOf table) (readOf statement .holding) line (entryOf line)
 
 -- "8 only where no other applies"
+unfoldable pub withRoom : Verdict → List ℕ → ℕ → Verdict
+withRoom verdict bytes room = weighed verdict (ltb room (length bytes)) OutputShort
+
 unfoldable pub callWeighed : List ℕ → List ℕ → List ℕ → ℕ → Verdict
-callWeighed statement table line room =
-    weighed (callVerdict statement table line) (ltb room (length (callBytes statement table line))) OutputShort
+callWeighed statement table line room = withRoom (callVerdict statement table line) (callBytes statement table line) room
 
 -- "The call returns the bytes written, or a refusal's number with a minus sign."
 abbrev pub answerOf : Verdict → List ℕ → ℤ

@@ -1,0 +1,66 @@
+-- `calling::read_table` meets its contract: what was decoded stands in front, and is judged.
+use mathlib.Core.Path.{ap, _∙_}
+use native.Mathlib.Omega.{arith}
+use Rattle.tables.specs.Participant.{judged}
+use Rattle.calling.proofs.Given.{decoded-left, undecoded, decoded-few, decoded-front, judged-refused, judged-clear}
+use borrow.Author.Needs.{needs}
+use Rattle.calling.proofs.read_table.Statement.{statement}
+use Rattle.calling.proofs.read_table.Tie as tie
+
+part-judge-end : tie.Need-part-judge-end
+part-judge-end c =
+    let d = c .before .before .before .before .before .before in
+    let s = d .before .before .before .before in
+    let a = s .args in
+    omega (arith, decoded-few (a .table .now) (a .numbers .now) (s .pre) _ (d .decode .ensures .0) _ (c .before .before .decoded2 .given .1), s .pre, d .decode .kept .1 .0)
+
+returns : tie.Need-returns
+returns c =
+    let d = c .before .before .before .before .before in
+    let s = d .before .before .before .before in
+    let a = s .args in
+    (undecoded (a .table .now) (a .numbers .now) (s .pre) _ (d .decode .ensures .0) _ (c .before .decoded .given .1), decoded-left (a .table .now) (a .numbers .now) (s .pre) _ (d .decode .ensures .0) _ (d .decode .ensures .1))
+
+returns-2 : tie.Need-returns-2
+returns-2 c =
+    let j = c .before .before .before in
+    let told = j .before .before .before .before in
+    let d = told .before .before .before .before in
+    let s = d .before .before .before .before in
+    let a = s .args in
+    let front = decoded-front (a .table .now) (a .numbers .now) (s .pre) _ (d .decode .ensures .0) _ (told .decoded2 .given .1) _ (d .decode .ensures .1) in (
+      judged-refused (a .table .now) (a .numbers .now) (s .pre) _ (d .decode .ensures .0) _ (told .decoded2 .given .1) _ _ (j .judge .ensures ∙ ap judged front) (c .before .v .given .1),
+      decoded-left (a .table .now) (a .numbers .now) (s .pre) _ (d .decode .ensures .0) _ (d .decode .ensures .1),
+    )
+
+returns-3 : tie.Need-returns-3
+returns-3 c =
+    let j = c .before .before in
+    let told = j .before .before .before .before in
+    let d = told .before .before .before .before in
+    let s = d .before .before .before .before in
+    let a = s .args in
+    let front = decoded-front (a .table .now) (a .numbers .now) (s .pre) _ (d .decode .ensures .0) _ (told .decoded2 .given .1) _ (d .decode .ensures .1) in (
+      judged-clear (a .table .now) (a .numbers .now) (s .pre) _ (d .decode .ensures .0) _ (told .decoded2 .given .1) _ (j .judge .ensures ∙ ap judged front) (c .enum-told .given .1),
+      decoded-left (a .table .now) (a .numbers .now) (s .pre) _ (d .decode .ensures .0) _ (d .decode .ensures .1),
+    )
+
+pub read-table-spec : {M : Type 1} → statement M
+read-table-spec =
+    tie.close
+    (tie.spec
+    (λ c κs. search needs)
+    (λ c. search needs)
+    (λ c. search needs)
+    (λ c. search needs)
+    (λ c. search needs)
+    part-judge-end
+    (λ c κs. search needs)
+    (λ c. search needs)
+    (λ c. search needs)
+    (λ c. search needs)
+    returns
+    (λ c. search needs)
+    returns-2
+    (λ c. search needs)
+    returns-3)

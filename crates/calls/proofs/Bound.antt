@@ -1,0 +1,94 @@
+-- No call writes more than 12288 bytes: its holding is kept, so the statement has at most 11861 bytes and the report 80, and a table has at most 2040.
+-- With an output of that length a book run line by line through the call gives the listing of `book`.
+use Prim.Native.Nat.{ℕ, _+_, _*_, _≤_}
+use mathlib.Core.Path.{_≡_, refl, sym, ap, subst, _∙_}
+use mathlib.Core.Bool.{true, not}
+use mathlib.Core.List.{List, [], _++_}
+use native.Mathlib.Omega.{arith}
+use borrow.Author.Tests.{not-false}
+use lib.ListN.{length, length-append}
+use Rattle.refusals.specs.declared.Refusal.the-variants.{TableColumn}
+use Rattle.refusals.specs.declared.Verdict.the-variants.{Clear as Accepted}
+use Rattle.refusals.proofs.Laws.{clear-last}
+use Rattle.tables.specs.Participant.{longestTable, isTable}
+use Rattle.decoding.specs.Bytes.{numbersOf, decodable}
+use Rattle.entries.specs.declared.Entry.{Entry}
+use Rattle.entries.specs.declared.Parsed.{Parsed}
+use Rattle.entries.specs.declared.Parsed.the-variants.{Taken, Turned}
+use Rattle.lines.specs.Lines.{entryOf}
+use Rattle.holding.specs.declared.Holding.{Holding}
+use Rattle.holding.specs.declared.Found.{Found}
+use Rattle.holding.specs.declared.Found.the-variants.{At, Nowhere}
+use Rattle.outcomes.specs.declared.Outcome.{Outcome}
+use Rattle.outcomes.specs.Outcomes.{placed}
+use Rattle.format.specs.Format.{statementOf}
+use Rattle.statement.specs.Statement.{readOf}
+use Rattle.growing.specs.Growing.{growable, longerBy}
+use Rattle.growing.proofs.Fits.{longer-fits}
+use Rattle.printing.specs.Printing.{reportText}
+use Rattle.listing.specs.Listing.{entryTaken, parsedTaken, lineTaken, listFrom, start}
+use Rattle.keeping.specs.Kept.{Kept}
+use Rattle.keeping.proofs.Areas.{kept-areas}
+use Rattle.trips.proofs.Trips.{read-kept}
+use Rattle.outputs.proofs.TableBytes.{bytes-length}
+use Rattle.calling.specs.Call.{tableVerdict, callVerdict, columnOf, foundBytes, entryBytes, parsedBytes, callBytes}
+use Rattle.calling.proofs.Smaller.{call-clear}
+use Rattle.calling.proofs.Sorts.{column-taken, step-taken, accepted-column}
+use Rattle.calls.specs.Calls.{begin, callsFrom}
+use Rattle.calls.proofs.Taken.{step-kept}
+use Rattle.calls.proofs.Lengths.{statement-few}
+use Rattle.calls.proofs.Reports.{report-few}
+use Rattle.calls.proofs.CallsList.{calls-list-within}
+
+abbrev pub mostWritten : ℕ
+mostWritten = 12288
+
+-- a table that is accepted is one
+table-is : (table : List ℕ) → tableVerdict table ≡ Accepted → isTable (numbersOf table) ≡ true
+unfolding tableVerdict
+table-is table e = not-false _ (clear-last (decodable table longestTable) (not (isTable (numbersOf table))) TableColumn e)
+
+module _ (own : List ℕ) (holding : Holding) (isOwn : isTable own ≡ true) (kept : Kept holding) (line : List ℕ) (entry : Entry) where
+  column-few : (column : ℕ) → columnOf entry ≡ At column → entryTaken own holding line entry .verdict ≡ Accepted
+      → length (foundBytes own holding line entry (At column)) ≤ mostWritten
+  column-few column c e =
+      let same = column-taken own holding line entry column c .0 in
+      let grown = accepted-column (growable own (holding .count) line column) holding (ap (λ (o : Outcome). o .verdict) (sym same) ∙ e) .0 in
+      omega (arith, bytes-length (longerBy own line column), longer-fits own (holding .count) line column grown)
+
+  step-few : columnOf entry ≡ Nowhere → length (foundBytes own holding line entry Nowhere) ≤ mostWritten
+  step-few c =
+      let outcome = entryTaken own holding line entry in
+      let after = placed holding outcome in
+      let same = step-taken own holding line entry c .0 in
+      let report = subst (λ (o : Outcome). length (reportText (o .report)) ≤ 80) (sym same) (report-few own isOwn holding (kept-areas holding kept) entry) in
+      omega (
+        arith,
+        length-append (statementOf after) (reportText (outcome .report)),
+        statement-few after (step-kept own holding isOwn line kept entry c),
+        report,
+      )
+
+  entry-few : entryTaken own holding line entry .verdict ≡ Accepted → length (entryBytes own holding line entry) ≤ mostWritten
+  unfolding entryBytes
+  entry-few e = go (columnOf entry) refl
+    where
+      go : (found : Found) → columnOf entry ≡ found → length (foundBytes own holding line entry found) ≤ mostWritten
+      go (At column) c = column-few column c e
+      go Nowhere c = step-few c
+
+parsed-few : (own : List ℕ) (holding : Holding) → isTable own ≡ true → Kept holding → (line : List ℕ) (parsed : Parsed)
+    → parsedTaken own holding line parsed .verdict ≡ Accepted → length (parsedBytes own holding line parsed) ≤ mostWritten
+unfolding parsedTaken
+parsed-few own holding isOwn kept line (Taken entry) e = entry-few own holding isOwn kept line entry e
+parsed-few own holding isOwn kept line (Turned r) e = omega arith
+
+pub call-few : (statement table line : List ℕ) → callVerdict statement table line ≡ Accepted → length (callBytes statement table line) ≤ mostWritten
+unfolding callBytes lineTaken
+call-few statement table line e =
+    let parts = call-clear statement table line e in
+    parsed-few (numbersOf table) (readOf statement .holding) (table-is table (parts .1)) (read-kept statement (parts .2)) line (entryOf line) (parts .3)
+
+-- each line is taken by a call; the statement, the table and the output of one call go to the next
+pub calls-list : (out : List ℕ) → mostWritten ≤ length out → (lines : List (List ℕ)) → callsFrom (begin out) lines ≡ listFrom start lines
+calls-list out room lines = calls-list-within mostWritten call-few out room lines

@@ -1,0 +1,53 @@
+-- What a line does to a holding that is kept and a table: a refused line leaves the holding, and an accepted one keeps it.
+use Prim.Native.Nat.{ℕ}
+use mathlib.Core.Path.{_≡_, refl, sym, ap, subst, _∙_}
+use mathlib.Core.Bool.{true}
+use mathlib.Core.List.{List}
+use Rattle.refusals.specs.declared.Refusal.{Refusal}
+use Rattle.refusals.specs.declared.Verdict.the-variants.{Clear as Accepted, Turned as Refused}
+use Rattle.schedules.specs.Schedules.{schedule6}
+use Rattle.tables.specs.Participant.{isTable}
+use Rattle.entries.specs.declared.Entry.{Entry}
+use Rattle.entries.specs.declared.Parsed.{Parsed}
+use Rattle.entries.specs.declared.Parsed.the-variants.{Taken, Turned}
+use Rattle.holding.specs.declared.Holding.{Holding}
+use Rattle.holding.specs.declared.Found.{Found}
+use Rattle.holding.specs.declared.Found.the-variants.{At, Nowhere}
+use Rattle.outcomes.specs.declared.Outcome.{Outcome}
+use Rattle.outcomes.specs.Outcomes.{answered, placed}
+use Rattle.steps.specs.Steps.{applied, stepped}
+use Rattle.growing.specs.Growing.{growable}
+use Rattle.listing.specs.Listing.{entryTaken, parsedTaken}
+use Rattle.keeping.specs.Kept.{Kept}
+use Rattle.keeping.proofs.Answers.{answer-has, refusal-leaves}
+use Rattle.keeping.proofs.Keeping.{step-keeps}
+use Rattle.keeping.proofs.Refused.{refused-leaves}
+use Rattle.calling.specs.Call.{columnOf}
+use Rattle.calling.proofs.Sorts.{columnOutcome, column-taken, step-taken}
+
+module _ (own : List ℕ) (holding : Holding) (table : isTable own ≡ true) (line : List ℕ) where
+  step-is : (entry : Entry) → columnOf entry ≡ Nowhere → entryTaken own holding line entry ≡ stepped own holding entry
+  unfolding stepped
+  step-is entry c = step-taken own holding line entry c .0 ∙ rw table
+
+  entry-leaves : (entry : Entry) (r : Refusal) → entryTaken own holding line entry .verdict ≡ Refused r
+      → placed holding (entryTaken own holding line entry) ≡ holding
+  entry-leaves entry r e = go (columnOf entry) refl
+    where
+      go : (found : Found) → columnOf entry ≡ found → placed holding (entryTaken own holding line entry) ≡ holding
+      go (At column) c =
+          let same = column-taken own holding line entry column c .0 in
+          ap (placed holding) same
+          ∙ refusal-leaves holding (columnOutcome holding) (growable own (holding .count) line column) r refl (ap (λ (o : Outcome). o .verdict) (sym same) ∙ e)
+      go Nowhere c =
+          let same = step-is entry c in
+          ap (placed holding) same ∙ refused-leaves own holding entry r (ap (λ (o : Outcome). o .verdict) (sym same) ∙ e)
+
+  pub line-leaves : (parsed : Parsed) (r : Refusal) → parsedTaken own holding line parsed .verdict ≡ Refused r
+      → placed holding (parsedTaken own holding line parsed) ≡ holding
+  unfolding parsedTaken placed
+  line-leaves (Taken entry) r e = entry-leaves entry r e
+  line-leaves (Turned s) r e = refl
+
+  pub step-kept : Kept holding → (entry : Entry) → columnOf entry ≡ Nowhere → Kept (placed holding (entryTaken own holding line entry))
+  step-kept kept entry c = subst (λ (o : Outcome). Kept (placed holding o)) (sym (step-is entry c)) (step-keeps own holding entry kept)

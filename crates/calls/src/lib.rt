@@ -1,0 +1,1 @@
+// A book run line by line through the call. No code.
