@@ -1,0 +1,28 @@
+"""Prints a book of nearly 64 KB: sixteen areas of sixteen sub-areas, then a return of each area for every year, and clearings at the end."""
+
+MOST_BYTES = 65536
+
+
+def lines():
+    for area in range(1, 17):
+        yield f"A,{area},2008"
+        for sub in range(1, 17):
+            yield f"S,{area},{sub},{10 + sub}.{area % 10},P{1 + sub % 9},{1960 + sub}"
+    for year in range(2008, 2200):
+        for area in range(1, 17):
+            yield f"R,{area},{year}"
+    while True:
+        for area in range(1, 17):
+            yield f"C,{area},{area},2199"
+
+
+def main():
+    room = MOST_BYTES
+    for line in lines():
+        room -= len(line) + 1
+        if room < 0:
+            return
+        print(line)
+
+
+main()
