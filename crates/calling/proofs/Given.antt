@@ -84,47 +84,53 @@ unfolding written
 written-count Accepted numbers n e = (refl, cc)
 written-count (Refused s) numbers n e = (cc, cc)
 
-module _ (table numbers : List ℕ) (long : length numbers ≡ longestTable) (decoded : Written)
-    (e : decoded ≡ written (decodable table (length numbers)) (numbersOf table)) where
-  decoded-by : decoded ≡ written (decodable table longestTable) (numbersOf table)
-  decoded-by = e ∙ ap (λ (n : ℕ). written (decodable table n) (numbersOf table)) long
+-- what a table's bytes were decoded to, with room for the longest
+pub record Decoded (table numbers after : List ℕ) (decoded : Written) : Type 0 where
+  pub told : decoded ≡ written (decodable table longestTable) (numbersOf table)
+  pub left : after ≡ bufferAfter (decodable table longestTable) (numbersOf table) numbers
 
-  pub decoded-left : (after : List ℕ) → after ≡ bufferAfter (decodable table (length numbers)) (numbersOf table) numbers
-      → after ≡ bufferAfter (decodable table longestTable) (numbersOf table) numbers
-  decoded-left after f = f ∙ ap (λ (n : ℕ). bufferAfter (decodable table n) (numbersOf table) numbers) long
+pub decoded-as : (table numbers after : List ℕ) (decoded : Written) → length numbers ≡ longestTable
+    → decoded ≡ written (decodable table (length numbers)) (numbersOf table) → after ≡ bufferAfter (decodable table (length numbers)) (numbersOf table) numbers
+    → Decoded table numbers after decoded
+decoded-as table numbers after decoded long e f = record {
+  told = e ∙ ap (λ (n : ℕ). written (decodable table n) (numbersOf table)) long;
+  left = f ∙ ap (λ (n : ℕ). bufferAfter (decodable table n) (numbersOf table) numbers) long;
+}
 
+module _ {table numbers after : List ℕ} {decoded : Written} (d : Decoded table numbers after decoded) where
   pub undecoded : (r : Refusal) → decoded ≡ Unwritten r → Unwritten r ≡ written (tableVerdict table) (numbersOf table)
   unfolding tableVerdict weighed written
-  undecoded r q = rw (written-refused (decodable table longestTable) (numbersOf table) r (sym decoded-by ∙ q))
+  undecoded r q = rw (written-refused (decodable table longestTable) (numbersOf table) r (sym (d .told) ∙ q))
 
   module _ (n : ℕ) (q : decoded ≡ Count n) where
     counted : (decodable table longestTable ≡ Accepted) × (n ≡ length (numbersOf table))
-    counted = written-count (decodable table longestTable) (numbersOf table) n (sym decoded-by ∙ q)
+    counted = written-count (decodable table longestTable) (numbersOf table) n (sym (d .told) ∙ q)
 
     pub decoded-few : n ≤ longestTable
     decoded-few = omega (arith, counted .1, number-count table, clear-decodable table longestTable (counted .0) .1)
 
-    module _ (after : List ℕ) (f : after ≡ bufferAfter (decodable table (length numbers)) (numbersOf table) numbers) where
-      pub decoded-front : take (n - 0) after ≡ numbersOf table
-      unfolding bufferAfter
-      decoded-front =
-          ap (take (n - 0)) (decoded-left after f ∙ ap (λ (v : Verdict). bufferAfter v (numbersOf table) numbers) (counted .0))
-          ∙ take-at (numbersOf table) (drop (length (numbersOf table)) numbers) (n - 0) (omega (arith, counted .1))
+    pub decoded-front : take (n - 0) after ≡ numbersOf table
+    unfolding bufferAfter
+    decoded-front =
+        ap (take (n - 0)) (d .left ∙ ap (λ (v : Verdict). bufferAfter v (numbersOf table) numbers) (counted .0))
+        ∙ take-at (numbersOf table) (drop (length (numbersOf table)) numbers) (n - 0) (omega (arith, counted .1))
 
-    judged-by : (v : Verdict) → v ≡ judged (numbersOf table) → v ≡ tableVerdict table
-    unfolding tableVerdict judged smallest weighAll
-    judged-by v h = h ∙ ap (λ (w : Verdict). weighed w (not (isTable (numbersOf table))) TableColumn) (sym (counted .0))
+    module _ (v : Verdict) (h : v ≡ judged (take (n - 0) after)) where
+      judged-by : v ≡ tableVerdict table
+      unfolding tableVerdict judged smallest weighAll
+      judged-by = h ∙ ap judged decoded-front ∙ ap (λ (w : Verdict). weighed w (not (isTable (numbersOf table))) TableColumn) (sym (counted .0))
 
-    pub judged-refused : (v : Verdict) (r : Refusal) → v ≡ judged (numbersOf table) → v ≡ Refused r → Unwritten r ≡ written (tableVerdict table) (numbersOf table)
-    unfolding written
-    judged-refused v r h k = rw (sym (judged-by v h) ∙ k)
+      pub judged-refused : (r : Refusal) → v ≡ Refused r → Unwritten r ≡ written (tableVerdict table) (numbersOf table)
+      unfolding written
+      judged-refused r k = rw (sym judged-by ∙ k)
 
-    pub judged-clear : (v : Verdict) → v ≡ judged (numbersOf table) → v ≡ Accepted → Count n ≡ written (tableVerdict table) (numbersOf table)
-    unfolding written
-    judged-clear v h k = rw (sym (judged-by v h) ∙ k) (ap Count (counted .1))
+      pub judged-clear : v ≡ Accepted → Count n ≡ written (tableVerdict table) (numbersOf table)
+      unfolding written
+      judged-clear k = rw (sym judged-by ∙ k) (ap Count (counted .1))
 
 -- what was read of a table, and the numbers lent on
-pub table-refused : (table : List ℕ) (own : Written) (r : Refusal) → own ≡ written (tableVerdict table) (numbersOf table) → own ≡ Unwritten r → tableVerdict table ≡ Refused r
+pub table-refused : (table : List ℕ) (own : Written) (r : Refusal) → own ≡ written (tableVerdict table) (numbersOf table) → own ≡ Unwritten r
+    → tableVerdict table ≡ Refused r
 table-refused table own r e q = written-refused (tableVerdict table) (numbersOf table) r (sym e ∙ q)
 
 pub record TableRead (table : List ℕ) (n : ℕ) : Type 0 where
@@ -240,7 +246,10 @@ module _ (statement table line out : List ℕ) where
       → (answer ≡ written (callWeighed statement table line (length out)) (callBytes statement table line)) × (after ≡ callOutput statement table line out)
   unfolding callWeighed callOutput entryVerdict
   call-given entry own answer after read clear same given =
-      let weighed-as = ap (λ (l : List ℕ). smaller (readOf statement .verdict) (entryTaken l (readOf statement .holding) line entry .verdict)) same ∙ sym (entry-decides statement table line entry read clear) in
+      let holding = readOf statement .holding in
+      let weighed-as =
+      ap (λ (l : List ℕ). smaller (readOf statement .verdict) (entryTaken l holding line entry .verdict)) same
+      ∙ sym (entry-decides statement table line entry read clear) in
       let written-as = ap (λ (l : List ℕ). entryBytes l (readOf statement .holding) line entry) same ∙ sym (entry-writes statement table line entry read) in
       let g = gives-as weighed-as written-as given in
       (g .told, g .left)

@@ -1,24 +1,22 @@
 -- The order of a call's parts. A line is refused by a number up to 6 and a table by 6; a statement is refused by 11, and an entry that was read, on any
 -- holding and table, by no number below 6. So a refused line decides, then a refused table, and only the statement and the state are weighed together.
 use Prim.Native.Nat.{ℕ, _/_, _%_, _≤_}
-use mathlib.Core.Path.{_≡_, refl, sym, ap, subst, _∙_}
-use mathlib.Core.Bool.{Bool, true, false, not, cond, _&&_}
-use mathlib.Core.List.{List, [], _∷_}
+use mathlib.Core.Path.{_≡_, refl}
+use mathlib.Core.Bool.{Bool, true, false, not, cond}
+use mathlib.Core.List.{List}
 use native.Mathlib.Omega.{arith}
 use lib.Dec.{eqb, leb, ltb, lit≤}
 use lib.ListN.{length}
 use Rattle.text.specs.Fields.{split}
 use Rattle.refusals.specs.declared.Refusal.{Refusal}
-use Rattle.refusals.specs.declared.Refusal.the-variants.{TableColumn, TableAfterArea, OutputShort, CarriedStatement}
+use Rattle.refusals.specs.declared.Refusal.the-variants.{TableColumn, TableAfterArea, OutputShort}
 use Rattle.refusals.specs.declared.Verdict.{Verdict}
 use Rattle.refusals.specs.declared.Verdict.the-variants.{Clear as Accepted, Turned as Refused}
 use Rattle.refusals.specs.Refusals.{numberOf, weighed, weighAll, smallest}
-use Rattle.schedules.specs.Schedules.{schedule6}
 use Rattle.tables.specs.Participant.{longestTable, isTable}
 use Rattle.decoding.specs.Bytes.{numbersOf, decodable}
 use Rattle.entries.specs.declared.Entry.{Entry}
 use Rattle.entries.specs.declared.Entry.the-variants.{Open, Add, Clear, Plant, File, Withdraw, Column}
-use Rattle.entries.specs.declared.Parsed.{Parsed}
 use Rattle.entries.specs.declared.Parsed.the-variants.{Taken, Turned}
 use Rattle.entries.specs.Rules.{Rule, parsed, areaAndYear, openRule, addRule, clearRule, plantRule, fileRule, withdrawRule}
 use Rattle.columns.specs.Columns.{columnRule}
@@ -37,7 +35,7 @@ use Rattle.growing.specs.Growing.{lineCells, growable}
 use Rattle.statement.specs.Statement.{acceptable, readIf, readOf}
 use Rattle.reading.specs.Reading.{holdingAt}
 use Rattle.listing.specs.Listing.{entryTaken, parsedTaken, lineTaken}
-use Rattle.calling.specs.Call.{lineVerdict, tableVerdict, smaller, callVerdict, entryBytes, callBytes}
+use Rattle.calling.specs.Call.{tableVerdict, smaller, callVerdict, entryBytes, callBytes}
 use Rattle.calling.proofs.Smaller.{From, from-less, smaller-first, smaller-from}
 use Rattle.calling.proofs.Sorts.{columnOutcome}
 use Rattle.calling.proofs.Ranged.{Ranged, entry-ranged}

@@ -1,20 +1,18 @@
 -- What a line is read as is within the ranges of document 01's "Entries": the cases of its letter's rule, of which none applies, say so.
 use Prim.Native.Nat.{ℕ, _+_, _/_, _≤_}
-use mathlib.Core.Path.{_≡_, refl, sym, ap, subst}
-use mathlib.Core.Bool.{Bool, true, false, not, cond, _&&_, _||_}
+use mathlib.Core.Path.{_≡_, refl, subst}
+use mathlib.Core.Bool.{Bool, true, false, cond, _&&_}
 use mathlib.Core.List.{List}
 use native.Mathlib.Omega.{arith}
 use borrow.Author.Tests.{le-leb, ltb-false, eq-eqb}
 use lib.Dec.{eqb, leb, ltb}
 use Rattle.laws.proofs.Elements.{or-false-left, or-false-right}
-use Rattle.laws.proofs.Lists.{and-left, and-right}
 use Rattle.text.specs.Fields.{split}
 use Rattle.refusals.specs.declared.Verdict.{Verdict}
 use Rattle.refusals.specs.declared.Verdict.the-variants.{Clear as Accepted, Turned as Refused}
 use Rattle.refusals.specs.Refusals.{smallest}
 use Rattle.refusals.proofs.Laws.{NoneApplies, none-applies}
 use Rattle.units.specs.Units.{tenthsOf}
-use Rattle.forest.specs.declared.Forest.{Forest}
 use Rattle.forest.specs.declared.Forest.the-variants.{Bare, Radiata, DouglasFir, ExoticSoftwoods, ExoticHardwoods, Indigenous}
 use Rattle.forest.specs.declared.Named.{Named}
 use Rattle.forest.specs.declared.Named.the-variants.{Listed, Unlisted}

@@ -1,11 +1,12 @@
 -- Tables of cases whose numbers lie from a number on, or up to one, but for cases that do not apply: so does the refusal given.
 use Prim.Native.Nat.{ℕ, _≤_}
-use mathlib.Core.Path.{_≡_, refl, ap, sym}
+use mathlib.Core.Path.{_≡_, refl, sym, ap, _∙_}
 use mathlib.Core.Bool.{Bool, true, false, not, _&&_, _||_}
 use mathlib.Core.List.{List, [], _∷_}
 use native.Mathlib.Omega.{arith}
 use borrow.Author.Tests.{leb-true}
 use lib.Dec.{leb}
+use Rattle.laws.proofs.Elements.{or-none}
 use Rattle.laws.proofs.Lists.{and-left, and-right}
 use Rattle.refusals.specs.declared.Refusal.{Refusal}
 use Rattle.refusals.specs.declared.Verdict.{Verdict}
@@ -28,12 +29,8 @@ starts-from n (c ∷ cs) e = go (c .applies) (and-left first (startsAt n cs) e) 
     first : Bool
     first = leb n (numberOf (c .refusal)) || not (c .applies)
 
-    or-none : (b : Bool) → (b || false) ≡ true → b ≡ true
-    or-none true e = refl
-    or-none false e = e
-
     go : (t : Bool) → (leb n (numberOf (c .refusal)) || not t) ≡ true → From n (weighAll Accepted cs) → From n (weighAll (weighed Accepted t (c .refusal)) cs)
-    go true h rest = rw (turned-stands (c .refusal) cs) (leb-true n (numberOf (c .refusal)) (or-none (leb n (numberOf (c .refusal))) h))
+    go true h rest = rw (turned-stands (c .refusal) cs) (leb-true n (numberOf (c .refusal)) (sym (or-none (leb n (numberOf (c .refusal)))) ∙ h))
     go false h rest = rest
 
 -- one case more

@@ -1,7 +1,7 @@
 -- "The field unit's own program, written in C, calls the engine with a statement, a table, a line and an output buffer."
 use Prim.Native.Nat.{ℕ}
 use mathlib.Core.Bool.{cond, not}
-use mathlib.Core.List.{List, [], _∷_, _++_}
+use mathlib.Core.List.{List, []}
 use lib.Dec.{ltb, leb}
 use lib.IntN.{ℤ, pos, negℤ}
 use lib.ListN.{length}

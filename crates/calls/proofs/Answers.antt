@@ -1,17 +1,16 @@
 -- What a call answers and writes. On a statement that is the writer's and a table's own bytes the verdict is the line's own, so that the call
 -- answers what `book` finds; where there is room, the bytes stand in front.
-use Prim.Native.Nat.{ℕ, zero, suc, _-_, _≤_, _<_}
+use Prim.Native.Nat.{ℕ, zero, suc, _≤_, _<_}
 use mathlib.Core.Path.{_≡_, refl, sym, ap, _∙_}
-use mathlib.Core.Bool.{Bool, true, false, cond}
-use mathlib.Core.List.{List, [], _∷_, _++_}
+use mathlib.Core.Bool.{true}
+use mathlib.Core.List.{List, _++_}
 use native.Mathlib.Omega.{arith}
 use borrow.Author.Tests.{le-leb, le-ltb}
-use lib.Dec.{leb, ltb, lit≤}
-use lib.IntN.{ℤ, pos, negsuc, negℤ}
+use lib.Dec.{lit≤}
+use lib.IntN.{pos, negsuc, negℤ}
 use lib.ListN.{length, drop}
 use Rattle.refusals.specs.declared.Refusal.{Refusal}
 use Rattle.refusals.specs.declared.Refusal.the-variants.{Form, AreaOrSubNumber, ForestType, Hectares, YearRange, TableColumn, TreeList, OutputShort, ParcelList, NoTreesOfNineYears, CarriedStatement, AreaUsed, AreaUnknown, AreaWithdrawn, AreasFull, SubUsed, SubsFull, AreaFiled, SubUnknown, ClearingBareLand, PlantingUnderTrees, YearBefore, PlantedAfterOpening, TableAfterArea}
-use Rattle.refusals.specs.declared.Verdict.{Verdict}
 use Rattle.refusals.specs.declared.Verdict.the-variants.{Clear as Accepted, Turned as Refused}
 use Rattle.refusals.specs.Refusals.{numberOf, weighed}
 use Rattle.answers.specs.Answers.{bufferAfter}
@@ -22,13 +21,12 @@ use Rattle.entries.specs.declared.Parsed.the-variants.{Taken, Turned}
 use Rattle.lines.specs.Lines.{entryOf}
 use Rattle.holding.specs.declared.Holding.{Holding}
 use Rattle.format.specs.Format.{statementOf}
-use Rattle.statement.specs.declared.Read.{Read}
 use Rattle.statement.specs.Statement.{readOf}
 use Rattle.listing.specs.Listing.{parsedTaken, lineTaken}
 use Rattle.keeping.specs.Kept.{Kept}
 use Rattle.trips.proofs.Trips.{accepts-that}
 use Rattle.outputs.specs.Outputs.{tableBytes}
-use Rattle.calling.specs.Call.{lineVerdict, tableVerdict, smaller, callVerdict, parsedBytes, callBytes, withRoom, callWeighed, answerOf, callAnswer, callOutput}
+use Rattle.calling.specs.Call.{lineVerdict, tableVerdict, smaller, callVerdict, parsedBytes, callBytes, withRoom, callWeighed, callAnswer, callOutput}
 use Rattle.calls.proofs.Tables.{numbers-back, table-accepted}
 
 -- ---- with room

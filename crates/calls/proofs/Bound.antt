@@ -1,11 +1,11 @@
 -- No call writes more than 12288 bytes: its holding is kept, so the statement has at most 11861 bytes and the report 80, and a table has at most 2040.
 -- With an output of that length a book run line by line through the call gives the listing of `book`.
-use Prim.Native.Nat.{ℕ, _+_, _*_, _≤_}
+use Prim.Native.Nat.{ℕ, _≤_}
 use mathlib.Core.Path.{_≡_, refl, sym, ap, subst, _∙_}
 use mathlib.Core.Bool.{true, not}
-use mathlib.Core.List.{List, [], _++_}
+use mathlib.Core.List.{List}
 use native.Mathlib.Omega.{arith}
-use borrow.Author.Tests.{not-false}
+use borrow.Author.Tests.{not-false, le-ltb}
 use lib.ListN.{length, length-append}
 use Rattle.refusals.specs.declared.Refusal.the-variants.{TableColumn}
 use Rattle.refusals.specs.declared.Verdict.the-variants.{Clear as Accepted}
@@ -26,7 +26,8 @@ use Rattle.statement.specs.Statement.{readOf}
 use Rattle.growing.specs.Growing.{growable, longerBy}
 use Rattle.growing.proofs.Fits.{longer-fits}
 use Rattle.printing.specs.Printing.{reportText}
-use Rattle.listing.specs.Listing.{entryTaken, parsedTaken, lineTaken, listFrom, start}
+use Rattle.listing.specs.Listing.{entryTaken, parsedTaken, lineTaken, listFrom, start, longestBook, listingOf}
+use Rattle.listing.specs.Lines.{linesOf}
 use Rattle.keeping.specs.Kept.{Kept}
 use Rattle.keeping.proofs.Areas.{kept-areas}
 use Rattle.trips.proofs.Trips.{read-kept}
@@ -92,3 +93,8 @@ call-few statement table line e =
 -- each line is taken by a call; the statement, the table and the output of one call go to the next
 pub calls-list : (out : List ℕ) → mostWritten ≤ length out → (lines : List (List ℕ)) → callsFrom (begin out) lines ≡ listFrom start lines
 calls-list out room lines = calls-list-within mostWritten call-few out room lines
+
+-- so a book that `book` reads is run by calls as `book` runs it
+pub calls-book : (out book : List ℕ) → mostWritten ≤ length out → length book ≤ longestBook → callsFrom (begin out) (linesOf book) ≡ listingOf book
+unfolding listingOf
+calls-book out book room short = calls-list out room (linesOf book) ∙ simp (le-ltb longestBook (length book) short)

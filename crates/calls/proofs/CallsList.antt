@@ -31,8 +31,8 @@ use Rattle.keeping.specs.Kept.{Kept}
 use Rattle.keeping.proofs.Keeping.{empty-kept}
 use Rattle.outputs.specs.Outputs.{tableBytes}
 use Rattle.calling.specs.Call.{columnOf, stateBytes, foundBytes, entryBytes, parsedBytes, callVerdict, callBytes, callAnswer, callOutput}
-use Rattle.calling.proofs.Sorts.{columnOutcome, column-taken, step-taken, accepted-column}
-use Rattle.calls.specs.Calls.{Caller, begin, isColumnLine, statementIn, reportIn, taken, answered, afterCall, shown, shownAfter, callsFrom}
+use Rattle.calling.proofs.Sorts.{column-taken, step-taken, accepted-column}
+use Rattle.calls.specs.Calls.{Caller, begin, statementIn, reportIn, taken, answered, afterCall, shown, shownAfter, callsFrom}
 use Rattle.calls.proofs.Split.{statement-split, report-split}
 use Rattle.calls.proofs.ColumnLines.{column-line}
 use Rattle.calls.proofs.Tables.{longer-table}
@@ -65,6 +65,10 @@ module _ (most : ℕ) (caller : Caller) (run : Run) (f : Follows most caller run
 
   abbrev outcome : Outcome
   outcome = lineTaken own holding line
+
+  -- how many bytes the call needs
+  abbrev needed : ℕ
+  needed = length (callBytes (caller .statement) (caller .table) line)
 
   -- what a call comes to, by its answer and its output
   by-answer : (out : List ℕ) (answer : ℤ) → callOutput (caller .statement) (caller .table) line (caller .out) ≡ out
@@ -110,11 +114,13 @@ module _ (most : ℕ) (caller : Caller) (run : Run) (f : Follows most caller run
           kept = f .kept;
           isOwn = f .isOwn;
         });
-        prints = after .1 ∙ ap (λ (n : ℕ). pairText 88 n (suc (minus .0))) number ∙ ap (pairText 88 (run .accepted + run .refused + 1)) (minus .2) ∙ sym (printed-refused r e);
+        prints =
+            after .1 ∙ ap (λ (n : ℕ). pairText 88 n (suc (minus .0))) number
+            ∙ ap (pairText 88 (run .accepted + run .refused + 1)) (minus .2) ∙ sym (printed-refused r e);
       }
 
   -- an accepted call: its output stands in front, and all of it is taken
-  module _ (clear : outcome .verdict ≡ Accepted) (enough : length (callBytes (caller .statement) (caller .table) line) ≤ most) (entry : Entry) (read : entryOf line ≡ Taken entry) where
+  module _ (clear : outcome .verdict ≡ Accepted) (enough : needed ≤ most) (entry : Entry) (read : entryOf line ≡ Taken entry) where
     abbrev written : List ℕ
     written = entryBytes own holding line entry
 
@@ -124,9 +130,11 @@ module _ (most : ℕ) (caller : Caller) (run : Run) (f : Follows most caller run
     accepted-after : (t : Bool) → known (columnOf entry) ≡ t
         → (afterCall caller line ≡ taken caller t out written) × (shownAfter caller line ≡ cond t [] (reportIn written))
     accepted-after t e =
-        let call = accepted-call own holding (f .kept) (f .isOwn) (caller .statement) (caller .table) line (caller .out) (f .statement) (f .table) clear (omega (arith, enough, f .room)) in
+        let room : needed ≤ length (caller .out) = omega (arith, enough, f .room) in
+        let call = accepted-call own holding (f .kept) (f .isOwn) (caller .statement) (caller .table) line (caller .out) (f .statement) (f .table) clear room in
         let whole = ap (λ (p : Parsed). parsedBytes own holding line p) read in
-        let after = by-answer out (pos (length written)) (call .1 ∙ ap (λ (b : List ℕ). b ++ drop (length b) (caller .out)) whole) (call .0 ∙ ap (λ (b : List ℕ). pos (length b)) whole) in
+        let left = call .1 ∙ ap (λ (b : List ℕ). b ++ drop (length b) (caller .out)) whole in
+        let after = by-answer out (pos (length written)) left (call .0 ∙ ap (λ (b : List ℕ). pos (length b)) whole) in
         let column = sym (column-line line entry read) ∙ e in
         let front = take-append-seam written (drop (length written) (caller .out)) in (
           after .0 ∙ ap (λ (b : Bool). taken caller b out (take (length written) out)) column ∙ ap (taken caller t out) front,
@@ -155,8 +163,9 @@ module _ (most : ℕ) (caller : Caller) (run : Run) (f : Follows most caller run
         let taken-as = column-taken own holding line entry column c in
         let same = by-entry ∙ taken-as .0 in
         let grown = accepted-column (growable own (holding .count) line column) holding (ap (λ (o : Outcome). o .verdict) (sym same) ∙ clear) in
+        let more = ap (parsedTable own line) read ∙ taken-as .1 in
         record {
-          follows = follows-as (after .0) (next-accepted (longerBy own line column) holding clear (ap (parsedTable own line) read ∙ taken-as .1) (ap (placed holding) (same ∙ grown .1))) (record {
+          follows = follows-as (after .0) (next-accepted (longerBy own line column) holding clear more (ap (placed holding) (same ∙ grown .1))) (record {
             statement = f .statement;
             table = column-bytes column c;
             room = enough-room;
@@ -172,8 +181,9 @@ module _ (most : ℕ) (caller : Caller) (run : Run) (f : Follows most caller run
     step-matches c =
         let after = accepted-after false (ap known c) in
         let whole = step-bytes c in
+        let same = ap (parsedTable own line) read ∙ step-taken own holding line entry c .1 in
         record {
-          follows = follows-as (after .0) (next-accepted own (placed holding outcome) clear (ap (parsedTable own line) read ∙ step-taken own holding line entry c .1) refl) (record {
+          follows = follows-as (after .0) (next-accepted own (placed holding outcome) clear same refl) (record {
             statement = ap statementIn whole ∙ statement-split (placed holding outcome) (outcome .report);
             table = f .table;
             room = enough-room;
@@ -185,13 +195,15 @@ module _ (most : ℕ) (caller : Caller) (run : Run) (f : Follows most caller run
           prints = after .1 ∙ ap reportIn whole ∙ report-split (placed holding outcome) (outcome .report) ∙ sym (printed-accepted clear);
         }
 
-  line-matches : (callVerdict (caller .statement) (caller .table) line ≡ Accepted → length (callBytes (caller .statement) (caller .table) line) ≤ most)
-      → Matches most caller run line
+  line-matches : (callVerdict (caller .statement) (caller .table) line ≡ Accepted → needed ≤ most) → Matches most caller run line
   unfolding lineTaken parsedTaken
   line-matches enough = by-verdict (outcome .verdict) refl
     where
-      by-parse : (p : Parsed) → entryOf line ≡ p → outcome .verdict ≡ Accepted → length (callBytes (caller .statement) (caller .table) line) ≤ most → Matches most caller run line
-      by-parse (Turned r) e clear h = let z : parsedTaken own holding line (Turned r) .verdict ≡ Accepted = sym (ap (λ (p : Parsed). parsedTaken own holding line p .verdict) e) ∙ clear in absurd (let z : _≡_ {A = ℕ} 0 1 = cc in omega arith)
+      by-parse : (p : Parsed) → entryOf line ≡ p → outcome .verdict ≡ Accepted → needed ≤ most → Matches most caller run line
+      by-parse (Turned r) e clear h =
+          let turned = ap (λ (p : Parsed). parsedTaken own holding line p .verdict) e in
+          let z : _≡_ {A = ℕ} 0 1 = cc in
+          absurd (omega arith)
       by-parse (Taken entry) e clear h = by-column (columnOf entry) refl
         where
           by-column : (found : Found) → columnOf entry ≡ found → Matches most caller run line
@@ -201,13 +213,15 @@ module _ (most : ℕ) (caller : Caller) (run : Run) (f : Follows most caller run
       by-verdict : (v : Verdict) → outcome .verdict ≡ v → Matches most caller run line
       by-verdict (Refused r) e = refused-matches r e
       by-verdict Accepted e =
-          by-parse (entryOf line) refl e (enough (own-verdict own holding (f .kept) (f .isOwn) (caller .statement) (caller .table) line (caller .out) (f .statement) (f .table) ∙ e))
+          let same = own-verdict own holding (f .kept) (f .isOwn) (caller .statement) (caller .table) line (caller .out) (f .statement) (f .table) in
+          by-parse (entryOf line) refl e (enough (same ∙ e))
 
 -- the bytes that a call needs are at most so many
 abbrev pub Enough : ℕ → Type 0
 Enough most = (statement table line : List ℕ) → callVerdict statement table line ≡ Accepted → length (callBytes statement table line) ≤ most
 
-calls-follow : (most : ℕ) → Enough most → (lines : List (List ℕ)) (caller : Caller) (run : Run) → Follows most caller run → callsFrom caller lines ≡ listFrom run lines
+calls-follow : (most : ℕ) → Enough most → (lines : List (List ℕ)) (caller : Caller) (run : Run) → Follows most caller run
+    → callsFrom caller lines ≡ listFrom run lines
 unfolding callsFrom listFrom
 calls-follow most enough [] caller run f = rw (f .accepted, f .refused)
 calls-follow most enough (line ∷ lines) caller run f =

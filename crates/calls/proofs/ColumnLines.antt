@@ -13,14 +13,14 @@ use Rattle.refusals.specs.declared.Verdict.the-variants.{Clear as Accepted, Tur
 use Rattle.refusals.specs.Refusals.{smallest}
 use Rattle.refusals.proofs.Laws.{NoneApplies, none-applies}
 use Rattle.entries.specs.declared.Entry.{Entry}
-use Rattle.entries.specs.declared.Parsed.{Parsed}
-use Rattle.entries.specs.declared.Parsed.the-variants.{Taken, Turned}
+use Rattle.entries.specs.declared.Parsed.the-variants.{Taken}
 use Rattle.entries.specs.Rules.{Rule, parsed, openRule, addRule, clearRule, plantRule, fileRule, withdrawRule}
 use Rattle.columns.specs.Columns.{columnRule}
 use Rattle.lines.specs.Lines.{bodyOf, letterOf, noRule, ruleOf, lineRule, conditions, entryOf}
 use Rattle.standing.specs.Standing.{known}
 use Rattle.keeping.proofs.Tests.{clash}
 use Rattle.calling.specs.Call.{columnOf}
+use Rattle.calling.proofs.Ranged.{taken-by}
 use Rattle.calls.specs.Calls.{isColumnLine}
 
 abbrev isColumn : Entry → Bool
@@ -72,12 +72,6 @@ body-first line h = go (eqb (getD line (length line - 1) 0) 10) h
     go : (t : Bool) → 0 < length (cond t (take (length line - 1) line) line) → getD (cond t (take (length line - 1) line) line) 0 0 ≡ getD line 0 0
     go true h = getD-take (length line - 1) line 0 0 (omega (arith, length-take (length line - 1) line))
     go false h = refl
-
--- an entry is taken where no case applies, and is its rule's
-taken-by : (v : Verdict) (x entry : Entry) → parsed v x ≡ Taken entry → (v ≡ Accepted) × (x ≡ entry)
-unfolding parsed
-taken-by Accepted x entry e = (refl, cc)
-taken-by (Refused r) x entry e = absurd (let z : _≡_ {A = ℕ} 0 1 = cc in omega arith)
 
 pub column-line : (line : List ℕ) (entry : Entry) → entryOf line ≡ Taken entry → known (columnOf entry) ≡ isColumnLine line
 unfolding entryOf lineRule isColumnLine

@@ -1,8 +1,8 @@
 -- How long a report is, where the holding is kept: an area's number and years are within their ranges, and its units within what its returns earn.
-use Prim.Native.Nat.{ℕ, _+_, _-_, _*_, _≤_}
+use Prim.Native.Nat.{ℕ, _+_, _-_, _≤_}
 use mathlib.Core.Path.{_≡_, refl}
 use mathlib.Core.Bool.{Bool, true, false, cond}
-use mathlib.Core.List.{List, [], _∷_}
+use mathlib.Core.List.{List, _∷_}
 use native.Mathlib.Omega.{arith}
 use borrow.Author.Tests.{not-false}
 use lib.Dec.{eqb}
@@ -22,7 +22,6 @@ use Rattle.holding.specs.declared.Holding.{Holding}
 use Rattle.holding.specs.declared.Found.{Found}
 use Rattle.holding.specs.Find.{findArea}
 use Rattle.standing.specs.Standing.{known, areaAt, balanceOf}
-use Rattle.carried.specs.Carried.{receivedForReturn}
 use Rattle.outcomes.specs.declared.Outcome.{Outcome}
 use Rattle.outcomes.specs.declared.Report.the-variants.{Withdrawal}
 use Rattle.outcomes.specs.Outcomes.{answered, areaCases}
@@ -36,7 +35,6 @@ use Rattle.steps.specs.Steps.{columnTaken, applied}
 use Rattle.format.specs.Format.{startText, numberText, joined}
 use Rattle.printing.specs.Printing.{lossText, changeText, reportText}
 use Rattle.printing.proofs.Lengths.{number-few}
-use Rattle.keeping.specs.Kept.{Kept}
 use Rattle.keeping.proofs.Answers.{ruled-out}
 use Rattle.keeping.proofs.Areas.{AreaKept, AreasKept}
 use Rattle.keeping.proofs.Changes.{area-found}

@@ -1,6 +1,6 @@
 -- Where the report begins in the bytes that a call wrote: no line of a statement begins with R or W, and a report does, so the scan passes over the
 -- statement and stops behind it.
-use Prim.Native.Nat.{ℕ, suc, _+_, _≤_}
+use Prim.Native.Nat.{ℕ, _+_, _≤_}
 use mathlib.Core.Path.{_≡_, refl, sym, ap, subst, _∙_}
 use mathlib.Core.Bool.{Bool, true, false, _||_}
 use mathlib.Core.List.{List, [], _∷_, _++_, append-assoc}
@@ -16,7 +16,7 @@ use Rattle.holding.specs.declared.Sub.{Sub}
 use Rattle.holding.specs.declared.Area.{Area}
 use Rattle.holding.specs.declared.Holding.{Holding}
 use Rattle.holding.specs.Holding.{areasOf, subsOf}
-use Rattle.format.specs.Format.{startText, numberText, typeText, joined, texts, residueText, subText, flag, yearsText, amountsText, areaText, statementOf}
+use Rattle.format.specs.Format.{startText, numberText, typeText, joined, texts, residueText, subText, yearsText, amountsText, areaText, statementOf}
 use Rattle.outcomes.specs.declared.Report.{Report}
 use Rattle.outcomes.specs.declared.Report.the-variants.{Nothing, Return, Withdrawal}
 use Rattle.printing.specs.Printing.{reportText}

@@ -1,17 +1,17 @@
 -- The table from call to call: its bytes are read back as its numbers, and a table longer by a column is again a table, of at most 1020 numbers.
 use Prim.Native.Nat.{ℕ, _+_, _*_, _/_, _%_, _≤_, _<_}
 use mathlib.Core.Path.{_≡_, refl, sym, ap, _∙_}
-use mathlib.Core.Bool.{Bool, true, false, not, cond, _&&_, _||_}
+use mathlib.Core.Bool.{Bool, true, false, _&&_, _||_}
 use mathlib.Core.List.{List, [], _∷_, _++_}
 use native.Mathlib.Omega.{arith}
 use native.Mathlib.Nat.{add-zero}
 use borrow.Author.Tests.{leb-true, leb-false, le-leb, eqb-true, eq-eqb, ltb-false, le-ltb, not-false}
-use lib.Dec.{eqb, leb, ltb}
-use lib.ListN.{length, getD, set, take, drop, length-set, length-take, length-append, length-drop}
+use lib.Dec.{eqb, leb}
+use lib.ListN.{length, getD, set, drop, length-set, length-take, length-append, length-drop}
 use lib.Seq.{take-at, drop-at, getD-drop}
 use Rattle.laws.specs.Lists.{eachAtMost, sumOf}
 use Rattle.laws.proofs.Lists.{and-left, and-right, ceiling-at}
-use Rattle.refusals.specs.declared.Refusal.the-variants.{TableColumn, OutputShort, TableAfterArea}
+use Rattle.refusals.specs.declared.Refusal.the-variants.{TableAfterArea}
 use Rattle.refusals.specs.declared.Verdict.the-variants.{Clear as Accepted}
 use Rattle.refusals.specs.Refusals.{weighed, weighAll, smallest}
 use Rattle.refusals.proofs.Laws.{clear-before, NoneApplies, none-applies}
@@ -96,9 +96,10 @@ module _ (table : List ℕ) (column : ℕ) (cells : List ℕ) where
       let front = take-at lengths rest columnCount ten in
       let behind = drop-at lengths rest columnCount ten in
       let empty : getD (lengthsOf table) column 0 ≡ 0 = omega (arith, free, simp add-zero at (getD-drop column (lengthsOf table) 0 0)) in
+      let more = sum-set (lengthsOf table) column (length cells) (omega (arith, taken, before .ten)) empty in
       record {
         ten = omega (arith, length-append lengths rest);
-        whole = ap length behind ∙ omega (arith, length-append (cellsOf table) cells, before .whole, sum-set (lengthsOf table) column (length cells) (omega (arith, taken, before .ten)) empty) ∙ ap sumOf (sym front);
+        whole = ap length behind ∙ omega (arith, length-append (cellsOf table) cells, before .whole, more) ∙ ap sumOf (sym front);
         short = ap (eachAtMost longestColumn) front ∙ each-set longestColumn (lengthsOf table) column (length cells) few (before .short);
         low = ap (eachAtMost cellCeiling) behind ∙ each-append cellCeiling (cellsOf table) cells (before .low) low;
       }

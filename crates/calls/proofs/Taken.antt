@@ -4,8 +4,7 @@ use mathlib.Core.Path.{_≡_, refl, sym, ap, subst, _∙_}
 use mathlib.Core.Bool.{true}
 use mathlib.Core.List.{List}
 use Rattle.refusals.specs.declared.Refusal.{Refusal}
-use Rattle.refusals.specs.declared.Verdict.the-variants.{Clear as Accepted, Turned as Refused}
-use Rattle.schedules.specs.Schedules.{schedule6}
+use Rattle.refusals.specs.declared.Verdict.the-variants.{Turned as Refused}
 use Rattle.tables.specs.Participant.{isTable}
 use Rattle.entries.specs.declared.Entry.{Entry}
 use Rattle.entries.specs.declared.Parsed.{Parsed}
@@ -14,12 +13,12 @@ use Rattle.holding.specs.declared.Holding.{Holding}
 use Rattle.holding.specs.declared.Found.{Found}
 use Rattle.holding.specs.declared.Found.the-variants.{At, Nowhere}
 use Rattle.outcomes.specs.declared.Outcome.{Outcome}
-use Rattle.outcomes.specs.Outcomes.{answered, placed}
-use Rattle.steps.specs.Steps.{applied, stepped}
+use Rattle.outcomes.specs.Outcomes.{placed}
+use Rattle.steps.specs.Steps.{stepped}
 use Rattle.growing.specs.Growing.{growable}
 use Rattle.listing.specs.Listing.{entryTaken, parsedTaken}
 use Rattle.keeping.specs.Kept.{Kept}
-use Rattle.keeping.proofs.Answers.{answer-has, refusal-leaves}
+use Rattle.keeping.proofs.Answers.{refusal-leaves}
 use Rattle.keeping.proofs.Keeping.{step-keeps}
 use Rattle.keeping.proofs.Refused.{refused-leaves}
 use Rattle.calling.specs.Call.{columnOf}

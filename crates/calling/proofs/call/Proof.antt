@@ -19,7 +19,8 @@ returns c =
 part-take-entry-end : tie.Need-part-take-entry-end
 part-take-entry-end c =
     let t = c .before .before .before .before .before in
-    omega (arith, table-read (t .before .before .before .before .before .before .before .before .before .before .args .table .now) _ _ (t .read-table .ensures .0) (c .before .before .own2 .given .1) .few)
+    let a = t .before .before .before .before .before .before .before .before .before .before .args in
+    omega (arith, table-read (a .table .now) _ _ (t .read-table .ensures .0) (c .before .before .own2 .given .1) .few)
 
 returns-2 : tie.Need-returns-2
 returns-2 c =

@@ -1,8 +1,6 @@
 -- `calling::read_table` meets its contract: what was decoded stands in front, and is judged.
-use mathlib.Core.Path.{ap, _∙_}
 use native.Mathlib.Omega.{arith}
-use Rattle.tables.specs.Participant.{judged}
-use Rattle.calling.proofs.Given.{decoded-left, undecoded, decoded-few, decoded-front, judged-refused, judged-clear}
+use Rattle.calling.proofs.Given.{decoded-as, undecoded, decoded-few, judged-refused, judged-clear}
 use borrow.Author.Needs.{needs}
 use Rattle.calling.proofs.read_table.Statement.{statement}
 use Rattle.calling.proofs.read_table.Tie as tie
@@ -11,15 +9,15 @@ part-judge-end : tie.Need-part-judge-end
 part-judge-end c =
     let d = c .before .before .before .before .before .before in
     let s = d .before .before .before .before in
-    let a = s .args in
-    omega (arith, decoded-few (a .table .now) (a .numbers .now) (s .pre) _ (d .decode .ensures .0) _ (c .before .before .decoded2 .given .1), s .pre, d .decode .kept .1 .0)
+    let decoded = decoded-as (s .args .table .now) (s .args .numbers .now) _ _ (s .pre) (d .decode .ensures .0) (d .decode .ensures .1) in
+    omega (arith, decoded-few decoded _ (c .before .before .decoded2 .given .1), s .pre, d .decode .kept .1 .0)
 
 returns : tie.Need-returns
 returns c =
     let d = c .before .before .before .before .before in
     let s = d .before .before .before .before in
-    let a = s .args in
-    (undecoded (a .table .now) (a .numbers .now) (s .pre) _ (d .decode .ensures .0) _ (c .before .decoded .given .1), decoded-left (a .table .now) (a .numbers .now) (s .pre) _ (d .decode .ensures .0) _ (d .decode .ensures .1))
+    let decoded = decoded-as (s .args .table .now) (s .args .numbers .now) _ _ (s .pre) (d .decode .ensures .0) (d .decode .ensures .1) in
+    (undecoded decoded _ (c .before .decoded .given .1), decoded .left)
 
 returns-2 : tie.Need-returns-2
 returns-2 c =
@@ -27,11 +25,8 @@ returns-2 c =
     let told = j .before .before .before .before in
     let d = told .before .before .before .before in
     let s = d .before .before .before .before in
-    let a = s .args in
-    let front = decoded-front (a .table .now) (a .numbers .now) (s .pre) _ (d .decode .ensures .0) _ (told .decoded2 .given .1) _ (d .decode .ensures .1) in (
-      judged-refused (a .table .now) (a .numbers .now) (s .pre) _ (d .decode .ensures .0) _ (told .decoded2 .given .1) _ _ (j .judge .ensures ∙ ap judged front) (c .before .v .given .1),
-      decoded-left (a .table .now) (a .numbers .now) (s .pre) _ (d .decode .ensures .0) _ (d .decode .ensures .1),
-    )
+    let decoded = decoded-as (s .args .table .now) (s .args .numbers .now) _ _ (s .pre) (d .decode .ensures .0) (d .decode .ensures .1) in
+    (judged-refused decoded _ (told .decoded2 .given .1) _ (j .judge .ensures) _ (c .before .v .given .1), decoded .left)
 
 returns-3 : tie.Need-returns-3
 returns-3 c =
@@ -39,11 +34,8 @@ returns-3 c =
     let told = j .before .before .before .before in
     let d = told .before .before .before .before in
     let s = d .before .before .before .before in
-    let a = s .args in
-    let front = decoded-front (a .table .now) (a .numbers .now) (s .pre) _ (d .decode .ensures .0) _ (told .decoded2 .given .1) _ (d .decode .ensures .1) in (
-      judged-clear (a .table .now) (a .numbers .now) (s .pre) _ (d .decode .ensures .0) _ (told .decoded2 .given .1) _ (j .judge .ensures ∙ ap judged front) (c .enum-told .given .1),
-      decoded-left (a .table .now) (a .numbers .now) (s .pre) _ (d .decode .ensures .0) _ (d .decode .ensures .1),
-    )
+    let decoded = decoded-as (s .args .table .now) (s .args .numbers .now) _ _ (s .pre) (d .decode .ensures .0) (d .decode .ensures .1) in
+    (judged-clear decoded _ (told .decoded2 .given .1) _ (j .judge .ensures) (c .enum-told .given .1), decoded .left)
 
 pub read-table-spec : {M : Type 1} → statement M
 read-table-spec =

@@ -1,5 +1,5 @@
 -- `calling::take_step` meets its contract: the verdict of the statement and of the step, and what the step leaves.
-use mathlib.Core.Path.{refl, sym, _∙_}
+use mathlib.Core.Path.{sym, _∙_}
 use Rattle.calling.proofs.Given.{gives-refused, gives-written, gives-as, step-weighed, step-written}
 use borrow.Author.Needs.{needs}
 use Rattle.calling.proofs.take_step.Statement.{statement}

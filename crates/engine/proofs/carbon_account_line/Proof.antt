@@ -1,5 +1,5 @@
 -- `engine::carbon_account_line` meets its contract: the answer is the call's, with its sign, and the output the call's.
-use Prim.Native.Nat.{ℕ, _<_, _^_}
+use Prim.Native.Nat.{_<_, _^_}
 use mathlib.Core.Path.{ap, _∙_}
 use native.Mathlib.Omega.{arith}
 use lib.IntN.{ℤ}

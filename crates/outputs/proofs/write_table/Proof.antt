@@ -1,5 +1,4 @@
 -- `outputs::write_table` meets its contract: two bytes a number have room, or the output is left.
-use native.Mathlib.Omega.{arith}
 use Rattle.outputs.proofs.TableBytes.{no-room, enough-room}
 use borrow.Author.Needs.{needs}
 use Rattle.outputs.proofs.write_table.Statement.{statement}
