@@ -1,4 +1,4 @@
--- No call writes more than 12288 bytes: its holding is kept, so the statement has at most 11861 bytes and the report 80, and a table has at most 2040.
+-- No call writes more than 12288 bytes: its holding is kept, so the statement has at most 11861 bytes and the report 60, and a table has at most 2040.
 -- With an output of that length a book run line by line through the call gives the listing of `book`.
 use Prim.Native.Nat.{ℕ, _≤_}
 use mathlib.Core.Path.{_≡_, refl, sym, ap, subst, _∙_}
@@ -31,6 +31,8 @@ use Rattle.listing.specs.Lines.{linesOf}
 use Rattle.keeping.specs.Kept.{Kept}
 use Rattle.keeping.proofs.Areas.{kept-areas}
 use Rattle.trips.proofs.Trips.{read-kept}
+use Rattle.room.proofs.Widths.{mostPrinted, printed-most}
+use Rattle.room.proofs.Reports.{applied-length}
 use Rattle.outputs.proofs.TableBytes.{bytes-length}
 use Rattle.calling.specs.Call.{tableVerdict, callVerdict, columnOf, foundBytes, entryBytes, parsedBytes, callBytes}
 use Rattle.calling.proofs.Smaller.{call-clear}
@@ -38,7 +40,6 @@ use Rattle.calling.proofs.Sorts.{column-taken, step-taken, accepted-column}
 use Rattle.calls.specs.Calls.{begin, callsFrom}
 use Rattle.calls.proofs.Taken.{step-kept}
 use Rattle.calls.proofs.Lengths.{statement-few}
-use Rattle.calls.proofs.Reports.{report-few}
 use Rattle.calls.proofs.CallsList.{calls-list-within}
 
 abbrev pub mostWritten : ℕ
@@ -62,12 +63,13 @@ module _ (own : List ℕ) (holding : Holding) (isOwn : isTable own ≡ true) (ke
       let outcome = entryTaken own holding line entry in
       let after = placed holding outcome in
       let same = step-taken own holding line entry c .0 in
-      let report = subst (λ (o : Outcome). length (reportText (o .report)) ≤ 80) (sym same) (report-few own isOwn holding (kept-areas holding kept) entry) in
+      let report = subst (λ (o : Outcome). length (reportText (o .report)) ≤ mostPrinted entry) (sym same) (applied-length own isOwn holding (kept-areas holding kept) entry) in
       omega (
         arith,
         length-append (statementOf after) (reportText (outcome .report)),
         statement-few after (step-kept own holding isOwn line kept entry c),
         report,
+        printed-most entry,
       )
 
   entry-few : entryTaken own holding line entry .verdict ≡ Accepted → length (entryBytes own holding line entry) ≤ mostWritten

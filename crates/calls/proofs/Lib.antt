@@ -1,4 +1,3 @@
-pub mod Lists
 pub mod Split
 pub mod ColumnLines
 pub mod Tables
@@ -6,5 +5,4 @@ pub mod Taken
 pub mod Answers
 pub mod CallsList
 pub mod Lengths
-pub mod Reports
 pub mod Bound

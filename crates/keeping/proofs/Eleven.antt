@@ -7,7 +7,6 @@ use native.Mathlib.Omega.{arith}
 use lib.Dec.{eqb}
 use borrow.Author.Tests.{eq-eqb}
 use Rattle.laws.specs.Elements.{every}
-use Rattle.laws.proofs.Lists.{and-left, and-right}
 use Rattle.refusals.specs.declared.Refusal.{Refusal}
 use Rattle.refusals.specs.declared.Refusal.the-variants.{CarriedStatement, TableColumn}
 use Rattle.refusals.specs.declared.Verdict.the-variants.{Clear as Accepted, Turned}
@@ -31,7 +30,8 @@ use Rattle.filing.specs.Filing.{fileCases, filed}
 use Rattle.withdrawing.specs.Withdrawing.{withdrawCases, withdrawn}
 use Rattle.steps.specs.Steps.{columnTaken, applied, stepped}
 use Rattle.keeping.specs.Kept.{Kept}
-use Rattle.keeping.proofs.Tests.{clash, both}
+use Rattle.laws.proofs.Lists.{and-left, and-right, both}
+use Rattle.keeping.proofs.Tests.{clash}
 use Rattle.keeping.proofs.Fields.{fields-carried}
 use Rattle.keeping.proofs.Areas.{AreasKept, kept-areas}
 use Rattle.keeping.proofs.Changes.{area-found}

@@ -8,9 +8,8 @@ use native.Mathlib.Omega.{arith}
 use lib.Dec.{eqb}
 use lib.ListN.{length, getD, set}
 use Rattle.laws.specs.Elements.{some, every, distinct}
-use Rattle.laws.proofs.Lists.{and-left, and-right}
+use Rattle.laws.proofs.Lists.{and-left, and-right, both}
 use Rattle.keeping.specs.Tidy.{Each}
-use Rattle.keeping.proofs.Tests.{both}
 
 module _ {A : Type 0} (P : A → Type 0) where
   pub each-at : (l : List A) (i : ℕ) (d : A) → i < length l → Each P l → P (getD l i d)

@@ -1,6 +1,6 @@
--- Tests joined: both hold, one holds where another does, or just when it does.
+-- Tests joined: one holds where another does, or just when it does.
 use Prim.Native.Nat.{ℕ}
-use mathlib.Core.Bool.{Bool, true, false, not, _&&_, _||_, Bool·beq}
+use mathlib.Core.Bool.{Bool, true, false, not, _||_, Bool·beq}
 use mathlib.Core.Path.{_≡_, refl, sym}
 use native.Mathlib.Omega.{arith}
 use lib.Dec.{eqb}
@@ -8,9 +8,6 @@ use borrow.Author.Tests.{eqb-true, eqb-false, eq-eqb, ne-eqb}
 
 pub clash : {P : Type 0} → _≡_ {A = Bool} true false → P
 clash e = absurd (let z : _≡_ {A = ℕ} 0 1 = cc in omega arith)
-
-pub both : (a b : Bool) → a ≡ true → b ≡ true → a && b ≡ true
-both a b e f = rw (e, f)
 
 -- "equal if withdrawn": a number equals another where a test holds
 module _ (t : Bool) (a b : ℕ) where

@@ -5,11 +5,11 @@ use mathlib.Core.Path.{_≡_}
 use lib.Dec.{eqb, leb, ltb}
 use borrow.Author.Tests.{leb-true, le-leb, ltb-false}
 use Rattle.laws.proofs.Elements.{or-false-left, or-false-right}
-use Rattle.laws.proofs.Lists.{and-left, and-right}
 use Rattle.forest.specs.declared.Forest.{Forest}
 use Rattle.units.specs.declared.Tenths.{Tenths}
 use Rattle.ranges.specs.Ranges.{firstYear, lastYear, firstPlanted, leastLand, mostLand, isBare, isYear, isLand, isPlanted}
-use Rattle.keeping.proofs.Tests.{clash, both}
+use Rattle.laws.proofs.Lists.{and-left, and-right, both}
+use Rattle.keeping.proofs.Tests.{clash}
 
 -- both bounds of a number that a test keeps within them
 pub within : (low n high : ℕ) → leb low n && leb n high ≡ true → (low ≤ n) × (n ≤ high)

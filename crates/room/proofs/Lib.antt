@@ -1,4 +1,3 @@
-pub mod Tables
 pub mod Texts
 pub mod Widths
 pub mod Reports

@@ -30,7 +30,7 @@ use Rattle.listing.specs.Listing.{entryTaken, parsedTaken, lineTaken, entryTabl
 use Rattle.keeping.specs.Kept.{Kept}
 use Rattle.keeping.proofs.Areas.{kept-areas}
 use Rattle.keeping.proofs.Keeping.{step-keeps, empty-kept}
-use Rattle.room.proofs.Tables.{extended-table}
+use Rattle.extension.proofs.Kept.{extended-table}
 use Rattle.room.proofs.Widths.{mostPrinted, entry-wide}
 use Rattle.room.proofs.Reports.{applied-length}
 

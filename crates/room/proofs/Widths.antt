@@ -74,6 +74,16 @@ mostPrinted (File area last) = 60
 mostPrinted (Withdraw area) = 19
 mostPrinted (Column column cells) = 0
 
+-- the longest is a return
+pub printed-most : (entry : Entry) → mostPrinted entry ≤ 60
+printed-most (Open area opening) = omega arith
+printed-most (Add area sub land forest year) = omega arith
+printed-most (Clear area sub year) = omega arith
+printed-most (Plant area sub forest year) = omega arith
+printed-most (File area last) = omega arith
+printed-most (Withdraw area) = omega arith
+printed-most (Column column cells) = omega arith
+
 module _ (s : List ℕ) where
   counted : (n : ℕ) → not (eqb (length (split s)) n) ≡ false → length (split s) ≡ n
   counted n e = eqb-true (length (split s)) n (not-false _ e)
