@@ -1,0 +1,49 @@
+//! The words of the command line.
+
+use crate::pair::Pair;
+use crate::programs::Programs;
+
+#[derive(Debug, Clone, Copy)]
+pub enum Measure {
+    Time,
+    Instructions,
+}
+
+impl Measure {
+    pub fn unit(self) -> &'static str {
+        match self {
+            Measure::Time => "ns",
+            Measure::Instructions => "instructions",
+        }
+    }
+}
+
+#[derive(Debug)]
+pub enum Options {
+    Table { measure: Measure, programs: Programs },
+    Only { who: String, row: usize, times: u32 },
+}
+
+impl Options {
+    pub fn read(words: impl Iterator<Item = String>) -> Result<Options, String> {
+        let words: Vec<String> = words.collect();
+        let words: Vec<&str> = words.iter().map(String::as_str).collect();
+        match words.as_slice() {
+            ["--only", who, row, times] => {
+                Ok(Options::Only { who: who.to_string(), row: number(row)?, times: number(times)? })
+            }
+            [book, engine, twin] => Ok(Options::table(Measure::Time, book, engine, twin)),
+            [book, engine, twin, "--instructions"] => Ok(Options::table(Measure::Instructions, book, engine, twin)),
+            _ => Err("wants BOOK PROGRAM TWIN, and --instructions or nothing".into()),
+        }
+    }
+
+    fn table(measure: Measure, book: &str, engine: &str, twin: &str) -> Options {
+        let programs = Pair { engine: engine.into(), twin: twin.into() };
+        Options::Table { measure, programs: Programs { book: book.into(), programs } }
+    }
+}
+
+fn number<T: std::str::FromStr>(word: &str) -> Result<T, String> {
+    word.parse().map_err(|_| format!("{word} is no number"))
+}
