@@ -13,6 +13,9 @@ ROOT = Path(__file__).resolve().parent.parent
 SHEET = ROOT / "data/schedules-2017.csv"
 CRATE = ROOT / "crates/schedules"
 TYPES = [f"P{n}" for n in range(1, 10)] + ["D", "S", "H", "N"]
+REGIONS = ["Auckland", "BayOfPlenty", "CanterburyWestCoast", "Gisborne", "HawkesBaySouthernNorthIsland", "NelsonMarlborough",
+           "Otago", "Southland", "WaikatoTaupo"]
+OTHERS = [("D", "DouglasFir"), ("S", "ExoticSoftwoods"), ("H", "ExoticHardwoods"), ("N", "Indigenous")]
 TABLES = [("4", "G"), ("6", "G"), ("6", "R")]
 SOURCE = "tools/schedules.py made this file from data/schedules-2017.csv."
 
@@ -51,23 +54,41 @@ def cells(columns):
     return [cell for _, column in columns for cell in column]
 
 
-def places(columns, start):
-    """Each column's start among the joined cells, its length and its first age; bare land, in front, has none."""
-    rows = ["Place {\n        start: 0,\n        len: 0,\n        first: 0,\n    }"]
-    for first, column in columns:
-        rows.append(f"Place {{\n        start: {start},\n        len: {len(column)},\n        first: {first},\n    }}")
+def place(start, length, first, indent):
+    """A column's start among the joined cells, its length and its first age."""
+    inner = "".join(f"{indent}    {name}: {value},\n" for name, value in (("start", start), ("len", length), ("first", first)))
+    return f"Place {{\n{inner}{indent}}}"
+
+
+def places(columns, start, indent):
+    """The place of each type; bare land, in front, has none."""
+    rows = [place(0, 0, 0, indent("B"))]
+    for forest, (first, column) in zip(TYPES, columns):
+        rows.append(place(start, len(column), first, indent(forest)))
         start += len(column)
     return rows
 
 
+def by_type(name, kind, columns, start):
+    """A function from a type to its column's place."""
+    of = dict(zip(["B"] + TYPES, places(columns, start, lambda f: " " * (12 if f.startswith("P") else 8))))
+    regions = "".join(f"            Region::{region} => {of[f'P{n}']},\n" for n, region in enumerate(REGIONS, 1))
+    others = "".join(f"        Forest::{forest} => {of[letter]},\n" for letter, forest in OTHERS)
+    return (f"pub fn {name}(forest: Forest) -> Place\n    ensures {{ λ r. ⌜ r ≡ placeSix {kind} forest ⌝ }}\n{{\n"
+            f"    match forest {{\n        Forest::Bare => {of['B']},\n        Forest::Radiata(region) => match region {{\n{regions}        }},\n"
+            f"{others}    }}\n}}\n")
+
+
 def code(four, stock, residue):
     return "\n".join([
-        f"// {SOURCE}\n// The cells of Schedules 4 and 6 in tenths of a tonne per hectare, column after column, and the columns' places.\nuse super::Place;\n",
+        f"// {SOURCE}\n// The cells of Schedules 4 and 6 in tenths of a tonne per hectare, column after column, and the columns' places.\n"
+        "ghost use mathlib.Core.Path.{_≡_};\nghost use Rattle.schedules.specs.declared.Kind.the-variants.{Stock, Residue};\n"
+        "ghost use Rattle.schedules.specs.Schedules.{placeSix};\nuse super::Place;\nuse forest::Forest;\nuse forest::Region;\n",
         constant("SCHEDULE_FOUR", "u16", cells(four)),
         constant("SCHEDULE_SIX", "u16", cells(stock) + cells(residue)),
-        constant("PLACES_FOUR", "Place", places(four, 0)),
-        constant("STOCK_PLACES_SIX", "Place", places(stock, 0)),
-        constant("RESIDUE_PLACES_SIX", "Place", places(residue, len(cells(stock)))),
+        constant("PLACES_FOUR", "Place", places(four, 0, lambda _: " " * 4)),
+        by_type("stock_place", "Stock", stock, 0),
+        by_type("residue_place", "Residue", residue, len(cells(stock))),
     ])
 
 

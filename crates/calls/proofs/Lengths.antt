@@ -13,7 +13,7 @@ use Rattle.holding.specs.declared.Area.{Area}
 use Rattle.holding.specs.declared.Holding.{Holding}
 use Rattle.holding.specs.Holding.{mostAreas, mostSubs, areasOf, subsOf}
 use Rattle.format.specs.Format.{startText, numberText, typeText, joined, texts, residueText, subText, flag, yearsText, amountsText, areaText, statementOf}
-use Rattle.printing.proofs.Lengths.{number-few}
+use Rattle.records.proofs.Puts.{number-few}
 use Rattle.keeping.specs.Tidy.{Each}
 use Rattle.keeping.specs.Kept.{Kept}
 use Rattle.trips.proofs.Fitting.{SubFits, AreaFits, holding-fits}

@@ -13,12 +13,13 @@ pub struct Residue {
     pub year: u16,
 }
 
+// A sub-area, its fields in an order that leaves no room between them.
 pub struct Sub {
-    pub number: u8,
     pub tenths: Tenths,
-    pub forest: Forest,
     pub planted: u16,
+    pub forest: Forest,
     pub residue: Residue,
+    pub number: u8,
 }
 
 // An accounting area. The stock is the last closing stock, or the opening stock before the first return.

@@ -42,17 +42,24 @@ pub fn write_table(numbers: &[u16], out: &mut [u8]) -> Written
 
 // Puts a statement and a report at a place; the answer is the place after them.
 fn put_reported(out: &mut [u8], at: usize, holding: Holding, report: Report) -> usize
-    ensures { λ r. ⌜ Put 32448 (now (out .entry)) at (reportedBytes holding report) (now (out .exit)) r ⌝ }
+    ensures { λ r. ⌜ Put 15888 (now (out .entry)) at (reportedBytes holding report) (now (out .exit)) r ⌝ }
 {
     let next = writing::put_statement(out, at, holding);
     printing::put_report(out, next, report)
 }
 
-// Writes a statement and a report to the front of `out`: how many bytes they have, or why they are not written.
+// Room for any statement and report, in bytes.
+const ROOM: usize = 15888;
+
+// Writes a statement and a report to the front of `out`: how many bytes they have, or why they are not written. Where there is room for any they are not measured.
 pub fn write_reported(holding: Holding, report: Report, out: &mut [u8]) -> Written
     ensures { λ r. ⌜ r ≡ written (writable (reportedBytes holding report) (length (now (out .entry)))) (reportedBytes holding report) ⌝ }
     ensures { λ _. ⌜ now (out .exit) ≡ bufferAfter (writable (reportedBytes holding report) (length (now (out .entry)))) (reportedBytes holding report) (now (out .entry)) ⌝ }
 {
+    if ROOM <= out.len() {
+        let count = put_reported(out, 0, holding, report);
+        return Written::Count(count);
+    }
     let mut unkept = [0u8; 1];
     let need = put_reported(&mut unkept, 0, holding, report);
     if out.len() < need {

@@ -1,4 +1,4 @@
--- How long what is printed is: a number of at most k + 1 digits and the byte that ends its field are at most k + 2 bytes.
+-- How long what is printed is.
 use Prim.Native.Nat.{ℕ, suc, _+_, _^_, _≤_, _<_}
 use native.Mathlib.Omega.{arith}
 use lib.Dec.{lit≤}
@@ -6,13 +6,9 @@ use lib.ListN.{length, length-append}
 use Rattle.refusals.specs.declared.Refusal.{Refusal}
 use Rattle.refusals.specs.declared.Refusal.the-variants.{Form, AreaOrSubNumber, ForestType, Hectares, YearRange, TableColumn, TreeList, OutputShort, ParcelList, NoTreesOfNineYears, CarriedStatement, AreaUsed, AreaUnknown, AreaWithdrawn, AreasFull, SubUsed, SubsFull, AreaFiled, SubUnknown, ClearingBareLand, PlantingUnderTrees, YearBefore, PlantedAfterOpening, TableAfterArea}
 use Rattle.refusals.specs.Refusals.{numberOf}
-use Rattle.text.proofs.Digits.{length-digits-le}
-use Rattle.format.specs.Format.{startText, numberText, joined}
+use Rattle.format.specs.Format.{startText, joined}
+use Rattle.records.proofs.Puts.{number-few}
 use Rattle.printing.specs.Printing.{pairText, refusalText, endText}
-
-pub number-few : (k n end : ℕ) → n < 10 ^ suc k → length (numberText n end) ≤ suc k + 1
-unfolding numberText
-number-few k n end h = simp length-append (omega (arith, length-digits-le k n h))
 
 pub pair-few : (j k letter a b : ℕ) → a < 10 ^ suc j → b < 10 ^ suc k → length (pairText letter a b) ≤ 2 + (suc j + 1) + (suc k + 1)
 unfolding pairText joined startText

@@ -1,9 +1,8 @@
 -- Lines put in parts: the pieces of two parts are the pieces of one line, so that the parts of a return, one after the other, are its line.
-use Prim.Native.Nat.{ℕ, _≤_}
+use Prim.Native.Nat.{ℕ}
 use mathlib.Core.Path.{_≡_, refl, sym, ap, _∙_}
 use mathlib.Core.List.{List, [], _∷_, _++_, append-assoc}
 use borrow.Author.Tests.{eq-eqb, ne-eqb}
-use lib.ListN.{length}
 use Rattle.units.specs.declared.Change.{Change}
 use Rattle.outcomes.specs.declared.Report.{Report}
 use Rattle.outcomes.specs.declared.Report.the-variants.{Return}
@@ -17,10 +16,6 @@ joined-parts [] ys = refl
 joined-parts (x ∷ xs) ys = append-assoc x (joined xs) (joined ys) ∙ ap (λ (l : List ℕ). x ++ l) (joined-parts xs ys)
 
 module _ {out : List ℕ} {at : ℕ} {after : List ℕ} {next : ℕ} where
-  -- a part with a closer bound
-  pub put-few : {j k : ℕ} {bytes : List ℕ} → length bytes ≤ k → Put j out at bytes after next → Put k out at bytes after next
-  put-few h a = record { wrote = a .wrote; few = h }
-
   -- a change of 0 t has no sign
   pub loss-none : {j : ℕ} (tonnes : ℕ) → tonnes ≡ 0 → Put j out at (numberText 0 44) after next → Put j out at (lossText tonnes) after next
   unfolding lossText

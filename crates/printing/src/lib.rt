@@ -7,13 +7,7 @@ use outcomes::Report;
 use refusals::Refusal;
 use units::Change;
 
-// Puts a number of at most five digits and the byte that ends its field; the answer, here and below, is the place after what was put.
-fn put_short(out: &mut [u8], at: usize, number: u16, end: u8) -> usize
-    ensures { λ r. ⌜ Put 6 (now (out .entry)) at (numberText number end) (now (out .exit)) r ⌝ }
-{
-    records::put_field(out, at, number as u64, end)
-}
-
+// Puts what is said of a loss of tonnes; the answer, here and below, is the place after what was put.
 fn put_loss(out: &mut [u8], at: usize, tonnes: u64) -> usize
     ensures { λ r. ⌜ Put 22 (now (out .entry)) at (lossText tonnes) (now (out .exit)) r ⌝ }
 {
@@ -38,9 +32,9 @@ fn put_years(out: &mut [u8], at: usize, area: u16, first: u16, last: u16) -> usi
     ensures { λ r. ⌜ Put 20 (now (out .entry)) at (joined (startText 82 ∷ numberText area 44 ∷ numberText first 44 ∷ numberText last 44 ∷ [])) (now (out .exit)) r ⌝ }
 {
     let next = records::put_start(out, at, 82);
-    let next = put_short(out, next, area, 44);
-    let next = put_short(out, next, first, 44);
-    put_short(out, next, last, 44)
+    let next = records::put_short(out, next, area, 44);
+    let next = records::put_short(out, next, first, 44);
+    records::put_short(out, next, last, 44)
 }
 
 // The units of a return, which end its line.
@@ -73,7 +67,7 @@ pub fn put_report(out: &mut [u8], at: usize, report: Report) -> usize
         }
         Report::Withdrawal { area, due } => {
             let next = records::put_start(out, at, 87);
-            let next = put_short(out, next, area, 44);
+            let next = records::put_short(out, next, area, 44);
             records::put_field(out, next, due, 10)
         }
     }

@@ -1,3 +1,4 @@
 pub mod LookUp
 pub mod Default
+pub mod BareLand
 pub mod Ceiling

@@ -85,7 +85,7 @@ fn cell_at(cells: &[u16], first: usize, age: u16) -> u16
     cells[cells.len() - 1]
 }
 
-// The rate of post-1989 forest land: the participant's table and the cells of Schedule 6 are lent.
+// The rate of post-1989 forest land, none on bare land: the participant's table and the cells of Schedule 6 are lent.
 pub fn rate_six<'a>(
     own: &'a [u16],
     default: &'a [u16],
@@ -95,6 +95,9 @@ pub fn rate_six<'a>(
 ) -> Rate
     ensures { λ r. ⌜ r ≡ rateSix (now (own .entry)) (now (default .entry)) kind forest age ⌝ }
 {
+    if let Forest::Bare = forest {
+        return Rate(0);
+    }
     let cells = column(own, default, kind, forest);
     let first = first_age(own, kind, forest);
     Rate(cell_at(cells, first, age))

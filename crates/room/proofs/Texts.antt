@@ -10,7 +10,7 @@ use Rattle.units.specs.declared.Change.the-variants.{Gain, Loss}
 use Rattle.format.specs.Format.{startText, numberText, joined}
 use Rattle.outcomes.specs.declared.Report.the-variants.{Return, Withdrawal}
 use Rattle.printing.specs.Printing.{lossText, changeText, reportText}
-use Rattle.printing.proofs.Lengths.{number-few}
+use Rattle.records.proofs.Puts.{number-few}
 use Rattle.keeping.proofs.Stocks.{sizeOf}
 
 change-length : (change : Change) → sizeOf change < 1000000000 → length (changeText change) ≤ 11

@@ -1,6 +1,11 @@
 // tools/schedules.py made this file from data/schedules-2017.csv.
 // The cells of Schedules 4 and 6 in tenths of a tonne per hectare, column after column, and the columns' places.
+ghost use mathlib.Core.Path.{_≡_};
+ghost use Rattle.schedules.specs.declared.Kind.the-variants.{Stock, Residue};
+ghost use Rattle.schedules.specs.Schedules.{placeSix};
 use super::Place;
+use forest::Forest;
+use forest::Region;
 
 pub const SCHEDULE_FOUR: [u16; 561] = [
     2550,
@@ -1929,148 +1934,160 @@ pub const PLACES_FOUR: [Place; 14] = [
     },
 ];
 
-pub const STOCK_PLACES_SIX: [Place; 14] = [
-    Place {
-        start: 0,
-        len: 0,
-        first: 0,
-    },
-    Place {
-        start: 0,
-        len: 51,
-        first: 0,
-    },
-    Place {
-        start: 51,
-        len: 51,
-        first: 0,
-    },
-    Place {
-        start: 102,
-        len: 51,
-        first: 0,
-    },
-    Place {
-        start: 153,
-        len: 51,
-        first: 0,
-    },
-    Place {
-        start: 204,
-        len: 51,
-        first: 0,
-    },
-    Place {
-        start: 255,
-        len: 51,
-        first: 0,
-    },
-    Place {
-        start: 306,
-        len: 51,
-        first: 0,
-    },
-    Place {
-        start: 357,
-        len: 51,
-        first: 0,
-    },
-    Place {
-        start: 408,
-        len: 51,
-        first: 0,
-    },
-    Place {
-        start: 459,
-        len: 51,
-        first: 0,
-    },
-    Place {
-        start: 510,
-        len: 51,
-        first: 0,
-    },
-    Place {
-        start: 561,
-        len: 36,
-        first: 0,
-    },
-    Place {
-        start: 597,
-        len: 51,
-        first: 0,
-    },
-];
+pub fn stock_place(forest: Forest) -> Place
+    ensures { λ r. ⌜ r ≡ placeSix Stock forest ⌝ }
+{
+    match forest {
+        Forest::Bare => Place {
+            start: 0,
+            len: 0,
+            first: 0,
+        },
+        Forest::Radiata(region) => match region {
+            Region::Auckland => Place {
+                start: 0,
+                len: 51,
+                first: 0,
+            },
+            Region::BayOfPlenty => Place {
+                start: 51,
+                len: 51,
+                first: 0,
+            },
+            Region::CanterburyWestCoast => Place {
+                start: 102,
+                len: 51,
+                first: 0,
+            },
+            Region::Gisborne => Place {
+                start: 153,
+                len: 51,
+                first: 0,
+            },
+            Region::HawkesBaySouthernNorthIsland => Place {
+                start: 204,
+                len: 51,
+                first: 0,
+            },
+            Region::NelsonMarlborough => Place {
+                start: 255,
+                len: 51,
+                first: 0,
+            },
+            Region::Otago => Place {
+                start: 306,
+                len: 51,
+                first: 0,
+            },
+            Region::Southland => Place {
+                start: 357,
+                len: 51,
+                first: 0,
+            },
+            Region::WaikatoTaupo => Place {
+                start: 408,
+                len: 51,
+                first: 0,
+            },
+        },
+        Forest::DouglasFir => Place {
+            start: 459,
+            len: 51,
+            first: 0,
+        },
+        Forest::ExoticSoftwoods => Place {
+            start: 510,
+            len: 51,
+            first: 0,
+        },
+        Forest::ExoticHardwoods => Place {
+            start: 561,
+            len: 36,
+            first: 0,
+        },
+        Forest::Indigenous => Place {
+            start: 597,
+            len: 51,
+            first: 0,
+        },
+    }
+}
 
-pub const RESIDUE_PLACES_SIX: [Place; 14] = [
-    Place {
-        start: 0,
-        len: 0,
-        first: 0,
-    },
-    Place {
-        start: 648,
-        len: 50,
-        first: 1,
-    },
-    Place {
-        start: 698,
-        len: 50,
-        first: 1,
-    },
-    Place {
-        start: 748,
-        len: 50,
-        first: 1,
-    },
-    Place {
-        start: 798,
-        len: 50,
-        first: 1,
-    },
-    Place {
-        start: 848,
-        len: 50,
-        first: 1,
-    },
-    Place {
-        start: 898,
-        len: 50,
-        first: 1,
-    },
-    Place {
-        start: 948,
-        len: 50,
-        first: 1,
-    },
-    Place {
-        start: 998,
-        len: 50,
-        first: 1,
-    },
-    Place {
-        start: 1048,
-        len: 50,
-        first: 1,
-    },
-    Place {
-        start: 1098,
-        len: 51,
-        first: 0,
-    },
-    Place {
-        start: 1149,
-        len: 51,
-        first: 0,
-    },
-    Place {
-        start: 1200,
-        len: 36,
-        first: 0,
-    },
-    Place {
-        start: 1236,
-        len: 51,
-        first: 0,
-    },
-];
+pub fn residue_place(forest: Forest) -> Place
+    ensures { λ r. ⌜ r ≡ placeSix Residue forest ⌝ }
+{
+    match forest {
+        Forest::Bare => Place {
+            start: 0,
+            len: 0,
+            first: 0,
+        },
+        Forest::Radiata(region) => match region {
+            Region::Auckland => Place {
+                start: 648,
+                len: 50,
+                first: 1,
+            },
+            Region::BayOfPlenty => Place {
+                start: 698,
+                len: 50,
+                first: 1,
+            },
+            Region::CanterburyWestCoast => Place {
+                start: 748,
+                len: 50,
+                first: 1,
+            },
+            Region::Gisborne => Place {
+                start: 798,
+                len: 50,
+                first: 1,
+            },
+            Region::HawkesBaySouthernNorthIsland => Place {
+                start: 848,
+                len: 50,
+                first: 1,
+            },
+            Region::NelsonMarlborough => Place {
+                start: 898,
+                len: 50,
+                first: 1,
+            },
+            Region::Otago => Place {
+                start: 948,
+                len: 50,
+                first: 1,
+            },
+            Region::Southland => Place {
+                start: 998,
+                len: 50,
+                first: 1,
+            },
+            Region::WaikatoTaupo => Place {
+                start: 1048,
+                len: 50,
+                first: 1,
+            },
+        },
+        Forest::DouglasFir => Place {
+            start: 1098,
+            len: 51,
+            first: 0,
+        },
+        Forest::ExoticSoftwoods => Place {
+            start: 1149,
+            len: 51,
+            first: 0,
+        },
+        Forest::ExoticHardwoods => Place {
+            start: 1200,
+            len: 36,
+            first: 0,
+        },
+        Forest::Indigenous => Place {
+            start: 1236,
+            len: 51,
+            first: 0,
+        },
+    }
+}

@@ -42,9 +42,8 @@ pub fn place_four(forest: Forest) -> Place
 pub fn place_six(kind: Kind, forest: Forest) -> Place
     ensures { λ r. ⌜ r ≡ placeSix kind forest ⌝ }
 {
-    let k = forest::order(forest);
     match kind {
-        Kind::Stock => cells::STOCK_PLACES_SIX[k],
-        Kind::Residue => cells::RESIDUE_PLACES_SIX[k],
+        Kind::Stock => cells::stock_place(forest),
+        Kind::Residue => cells::residue_place(forest),
     }
 }

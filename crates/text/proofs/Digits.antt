@@ -37,6 +37,15 @@ digits-step n h = go n (omega arith)
     go zero hf = absurd (omega arith)
     go (suc f) hf = simp (le-ltb n 10 h) (ap (λ (l : List ℕ). l ++ ((48 + n % 10) ∷ [])) (steps f (n / 10) (n / 10) (omega arith) (omega arith)))
 
+pub digits-two : (n : ℕ) → 10 ≤ n → n < 100 → digits n ≡ ((48 + n / 10) ∷ []) ++ ((48 + n % 10) ∷ [])
+digits-two n l h = digits-step n l ∙ ap (λ (ds : List ℕ). ds ++ ((48 + n % 10) ∷ [])) (digits-small (n / 10) (omega arith))
+
+pub digits-two-more : (n : ℕ) → 100 ≤ n → digits n ≡ (digits (n / 100) ++ ((48 + n / 10 % 10) ∷ [])) ++ ((48 + n % 10) ∷ [])
+digits-two-more n h =
+    let hundredth : n / 10 / 10 ≡ n / 100 = omega arith in
+    digits-step n (omega arith)
+    ∙ ap (λ (ds : List ℕ). ds ++ ((48 + n % 10) ∷ [])) (digits-step (n / 10) (omega arith) ∙ ap (λ (k : ℕ). digits k ++ ((48 + n / 10 % 10) ∷ [])) hundredth)
+
 -- a digit behind a number's digits
 pub digits-snoc : (v d : ℕ) → 0 < v → d < 10 → digits (v * 10 + d) ≡ digits v ++ ((48 + d) ∷ [])
 digits-snoc v d hv hd =

@@ -38,6 +38,11 @@ pub fn put_number(out: &mut [u8], at: usize, number: u64) -> usize
     if number < 10 {
         return put_byte(out, at, 48 + number as u8);
     }
-    let next = put_number(out, at, number / 10);
+    if number < 100 {
+        let next = put_byte(out, at, 48 + (number / 10) as u8);
+        return put_byte(out, next, 48 + (number % 10) as u8);
+    }
+    let next = put_number(out, at, number / 100);
+    let next = put_byte(out, next, 48 + (number / 10 % 10) as u8);
     put_byte(out, next, 48 + (number % 10) as u8)
 }

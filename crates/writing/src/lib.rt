@@ -14,12 +14,12 @@ use holding::Holding;
 use refusals::Refusal;
 
 fn put_years(out: &mut [u8], at: usize, area: Area) -> usize
-    ensures { λ r. ⌜ Put 84 (now (out .entry)) at (yearsText area) (now (out .exit)) r ⌝ }
+    ensures { λ r. ⌜ Put 24 (now (out .entry)) at (yearsText area) (now (out .exit)) r ⌝ }
 {
-    let next = records::put_field(out, at, area.number as u64, 44);
-    let next = records::put_field(out, next, area.opening as u64, 44);
-    let next = records::put_field(out, next, area.open_year as u64, 44);
-    records::put_field(out, next, area.latest as u64, 44)
+    let next = records::put_short(out, at, area.number, 44);
+    let next = records::put_short(out, next, area.opening, 44);
+    let next = records::put_short(out, next, area.open_year, 44);
+    records::put_short(out, next, area.latest, 44)
 }
 
 fn as_number(withdrawn: bool) -> u64
@@ -32,19 +32,19 @@ fn as_number(withdrawn: bool) -> u64
 }
 
 fn put_amounts(out: &mut [u8], at: usize, area: Area) -> usize
-    ensures { λ r. ⌜ Put 105 (now (out .entry)) at (amountsText area) (now (out .exit)) r ⌝ }
+    ensures { λ r. ⌜ Put 90 (now (out .entry)) at (amountsText area) (now (out .exit)) r ⌝ }
 {
     let stock = area.stock;
     let withdrawn = as_number(area.withdrawn);
     let next = records::put_field(out, at, withdrawn, 44);
-    let next = records::put_field(out, next, area.returns as u64, 44);
+    let next = records::put_short(out, next, area.returns, 44);
     let next = records::put_field(out, next, stock.0, 44);
     let next = records::put_field(out, next, area.received, 44);
     records::put_field(out, next, area.surrendered, 44)
 }
 
 fn put_area(out: &mut [u8], at: usize, area: Area) -> usize
-    ensures { λ r. ⌜ Put 2020 (now (out .entry)) at (areaText area) (now (out .exit)) r ⌝ }
+    ensures { λ r. ⌜ Put 985 (now (out .entry)) at (areaText area) (now (out .exit)) r ⌝ }
 {
     let next = records::put_start(out, at, 65);
     let next = put_years(out, next, area);
@@ -54,7 +54,7 @@ fn put_area(out: &mut [u8], at: usize, area: Area) -> usize
 }
 
 fn put_areas(out: &mut [u8], at: usize, holding: Holding) -> usize
-    ensures { λ r. ⌜ Put 32320 (now (out .entry)) at (texts areaText (areasOf holding)) (now (out .exit)) r ⌝ }
+    ensures { λ r. ⌜ Put 15760 (now (out .entry)) at (texts areaText (areasOf holding)) (now (out .exit)) r ⌝ }
 {
     let n = holding.count;
     let mut next = at;
@@ -73,7 +73,7 @@ fn put_areas(out: &mut [u8], at: usize, holding: Holding) -> usize
 // Puts the holding's statement at a place; the answer is the place after it.
 pub fn put_statement(out: &mut [u8], at: usize, holding: Holding) -> usize
     ensures { λ r. ⌜ Wrote (now (out .entry)) at (statementOf holding) (now (out .exit)) r ⌝ }
-    ensures { λ _. ⌜ length (statementOf holding) ≤ 32343 ⌝ }
+    ensures { λ _. ⌜ length (statementOf holding) ≤ 15783 ⌝ }
 {
     let next = records::put_start(out, at, 72);
     let next = records::put_field(out, next, holding.count as u64, 10);

@@ -4,7 +4,7 @@ use native.Mathlib.Omega.{arith}
 use Rattle.records.proofs.Puts.{put-as}
 use Rattle.printing.specs.Printing.{pairText, refusalText}
 use Rattle.printing.proofs.Lengths.{refusal-few}
-use Rattle.printing.proofs.Parts.{put-few}
+use Rattle.records.proofs.Puts.{put-few}
 use borrow.Author.Needs.{needs}
 use Rattle.printing.proofs.put_refusal.Statement.{statement}
 use Rattle.printing.proofs.put_refusal.Tie as tie

@@ -1,22 +1,26 @@
--- `rates::rate_six` meets its contract, by the column consulted and its first age.
-use mathlib.Core.Path.{ap, _∙_}
+-- `rates::rate_six` meets its contract: none on bare land, elsewhere by the column consulted and its first age.
+use mathlib.Core.Path.{sym, ap, _∙_}
 use Prim.Native.Nat.{ℕ}
 use mathlib.Core.List.{List}
 use Rattle.schedules.specs.Columns.{listed}
-use Rattle.units.specs.declared.Rate.{Rate}
 use Rattle.rates.specs.Rates.{consulted, cellAt, rateSix}
+use Rattle.forest.specs.declared.Forest.{Forest}
+use Rattle.rates.proofs.BareLand.{rate, none-on-bare}
 use Rattle.rates.proofs.LookUp.{first-of-any}
 use borrow.Author.Needs.{needs}
 use Rattle.rates.proofs.rate_six.Statement.{statement}
 use Rattle.rates.proofs.rate_six.Tie as tie
 
-abbrev rate : ℕ → Rate
-rate n = record { 0 = n }
-
 returns : tie.Need-returns
-unfolding rateSix
 returns c =
-    let a = c .before .before .before .before .before .args in
+    let a = c .before .before .before .before .args in
+    none-on-bare (a .own .now) (a .default .now) (a .kind) (a .age)
+    ∙ sym (ap (λ (forest : Forest). rateSix (a .own .now) (a .default .now) (a .kind) forest (a .age)) (c .enum-told .given .1))
+
+returns-2 : tie.Need-returns-2
+unfolding rateSix
+returns-2 c =
+    let a = c .before .before .before .before .before .before .args in
     let first = c .before .first-age .ensures ∙ first-of-any (a .own .now) (a .default .now) (a .kind) (a .forest) in
     ap rate
     (c .cell-at .ensures
@@ -27,7 +31,9 @@ pub rate-six-spec : {M : Type 1} → statement M
 rate-six-spec =
     tie.close
     (tie.spec
+    (λ c. search needs)
+    returns
     (λ c κs. search needs)
     (λ c κs. search needs)
     (λ c κs. search needs)
-    returns)
+    returns-2)

@@ -9,18 +9,16 @@ returns : tie.Need-returns
 unfolding residueText joined
 returns c =
     let year = c .before .before in
-    let age = year .before .before .before .before .before in
-    let forest = age .before .before .before .before .before in
-    put-then (forest .put-type .ensures) (put-then (age .put-field .ensures) (put-last (year .put-field2 .ensures)))
+    let age = year .before .before .before .before in
+    let forest = age .before .before .before .before in
+    put-then (forest .put-type .ensures) (put-then (age .put-short .ensures) (put-last (year .put-short2 .ensures)))
 
 pub put-residue-spec : {M : Type 1} → statement M
 put-residue-spec =
     tie.close
     (tie.spec
     (λ c κs. search needs)
-    (λ c. search needs)
     (λ c κs. search needs)
-    (λ c. search needs)
     (λ c κs. search needs)
     (λ c. search needs)
     returns)

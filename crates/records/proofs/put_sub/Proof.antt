@@ -10,15 +10,15 @@ unfolding subText joined
 returns c =
     let residue = c .before .before in
     let planted = residue .before .before .before .before in
-    let forest = planted .before .before .before .before .before in
+    let forest = planted .before .before .before .before in
     let tenths = forest .before .before .before .before in
     let number = tenths .before .before .before .before .before in
     let letter = number .before .before .before .before .before in
     put-then (letter .put-start .ensures)
-    (put-then (number .put-field .ensures)
-    (put-then (tenths .put-field2 .ensures)
+    (put-then (number .put-short .ensures)
+    (put-then (tenths .put-field .ensures)
     (put-then (forest .put-type .ensures)
-    (put-then (planted .put-field3 .ensures)
+    (put-then (planted .put-short2 .ensures)
     (put-last (residue .put-residue .ensures))))))
 
 pub put-sub-spec : {M : Type 1} → statement M
@@ -31,7 +31,6 @@ put-sub-spec =
     (λ c. search needs)
     (λ c κs. search needs)
     (λ c κs. search needs)
-    (λ c. search needs)
     (λ c κs. search needs)
     (λ c κs. search needs)
     (λ c. search needs)

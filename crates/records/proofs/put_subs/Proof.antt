@@ -14,7 +14,7 @@ use Rattle.records.proofs.put_subs.Statement.{statement}
 use Rattle.records.proofs.put_subs.Tie as tie
 
 abbrev Inv-loop : tie.InvT-loop
-Inv-loop out₀ at area n next₀ i₀ out next i = (i ≤ 16) × Put (113 * i) out₀ at (texts subText (take i (take n (area .subs)))) out next
+Inv-loop out₀ at area n next₀ i₀ out next i = (i ≤ 16) × Put (53 * i) out₀ at (texts subText (take i (take n (area .subs)))) out next
 
 abbrev μ-loop : tie.MeasureT-loop
 μ-loop out₀ at area n next₀ i₀ out next i = 16 - i
@@ -32,7 +32,7 @@ same-length c = wrote-length (c .before .before .loop .inv .1 .wrote)
 returns : tie.Need-returns Inv-loop μ-loop
 returns c =
     let b = c .before .before in
-    put-within (omega (arith, b .loop .inv .0)) (put-end subText _ _ (b .loop .i) 113 (b .loop .inv .1) (c .if1 .taken))
+    put-within (omega (arith, b .loop .inv .0)) (put-end subText _ _ (b .loop .i) 53 (b .loop .inv .1) (c .if1 .taken))
 
 mul-sub : tie.Need-mul-sub Inv-loop μ-loop
 mul-sub c = omega arith
@@ -55,7 +55,7 @@ loop-again c =
     let e = p .before .before .before in
     let b = e .before .before in (
       omega arith,
-      put-next subText _ _ (b .loop .i) 113 (b .loop .inv .1) _ (e .if1 .left) (omega (arith, sixteen (b .before .before))) (p .put-sub .ensures),
+      put-next subText _ _ (b .loop .i) 53 (b .loop .inv .1) _ (e .if1 .left) (omega (arith, sixteen (b .before .before))) (p .put-sub .ensures),
     )
 
 same-length-2 : tie.Need-same-length-2 Inv-loop μ-loop
@@ -66,7 +66,7 @@ returns-2 c =
     let b = c .before in
     let a = b .before .before .args .t3 in
     put-within (omega (arith, b .loop .inv .0))
-    (put-out subText (a .subs) (a .count) (b .loop .i) 113 (b .loop .inv .1) (omega (arith, c .loop-test .left, sixteen (b .before .before))))
+    (put-out subText (a .subs) (a .count) (b .loop .i) 53 (b .loop .inv .1) (omega (arith, c .loop-test .left, sixteen (b .before .before))))
 
 pub put-subs-spec : {M : Type 1} → statement M
 put-subs-spec =

@@ -1,11 +1,11 @@
--- `text::put_number` meets its contract: the digits of a number are those of its tenth and one more. The number itself falls at each call.
+-- `text::put_number` meets its contract: the digits of a number are those of its hundredth and two more. The number itself falls at each call.
 use Prim.Native.Nat.{ℕ, _<_}
 use mathlib.Core.Path.{sym}
 use native.Mathlib.Omega.{arith}
 use borrow.Author.Needs.{needs}
 use borrow.Fn.Kinds.{In}
 use borrow.Fn.PlainCycle.{Measures, is, falls, and}
-use Rattle.text.proofs.Digits.{digits-small, digits-step}
+use Rattle.text.proofs.Digits.{digits-small, digits-two, digits-two-more}
 use Rattle.text.proofs.Writes.{wrote-then, wrote-as}
 use Rattle.text.proofs.put_number.Reads as put-number
 use Rattle.text.proofs.put_number.Kinds as put-number-kinds
@@ -32,11 +32,27 @@ pub +put-number-spec : {M : Type 1} → statement M
     (λ c κs. search needs)
     (λ c. search needs)
     (λ c. wrote-as (sym (digits-small _ (c .before .before .before .before .if1 .taken))) (c .before .before .put-byte .ensures))
-    (λ c κs. omega arith)
+    (λ c. omega arith)
+    (λ c. omega arith)
+    (λ c κs. search needs)
     (λ c. omega arith)
     (λ c. omega arith)
     (λ c κs. search needs)
     (λ c. search needs)
     (λ c.
-    wrote-as (sym (digits-step _ (c .before .before .before .before .before .before .before .before .if1 .left)))
-    (wrote-then (c .before .before .before .before .before .before .put-number .ensures) (c .before .before .put-byte2 .ensures)))
+    let test = c .before .before .before .before .before .before .before .before in
+    wrote-as (sym (digits-two _ (test .before .if1 .left) (test .if2 .taken)))
+    (wrote-then (c .before .before .before .before .before .before .put-byte2 .ensures) (c .before .before .put-byte3 .ensures)))
+    (λ c κs. omega arith)
+    (λ c. omega arith)
+    (λ c. omega arith)
+    (λ c κs. search needs)
+    (λ c. omega arith)
+    (λ c. omega arith)
+    (λ c κs. search needs)
+    (λ c. search needs)
+    (λ c.
+    let tens = c .before .before .before .before .before .before in
+    let more = tens .before .before .before .before in
+    wrote-as (sym (digits-two-more _ (more .before .before .if2 .left)))
+    (wrote-then (wrote-then (more .put-number .ensures) (tens .put-byte4 .ensures)) (c .before .before .put-byte5 .ensures)))

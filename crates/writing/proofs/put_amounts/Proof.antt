@@ -14,10 +14,10 @@ returns c =
     let received = surrendered .before .before .before .before in
     let stock = received .before .before .before .before in
     let filed = stock .before .before .before .before in
-    let withdrawn = filed .before .before .before .before .before in
+    let withdrawn = filed .before .before .before .before in
     put-then (put-as (ap (λ (n : ℕ). numberText n 44) (withdrawn .before .before .as-number .ensures)) (withdrawn .put-field .ensures))
-    (put-then (filed .put-field2 .ensures)
-    (put-then (stock .put-field3 .ensures) (put-then (received .put-field4 .ensures) (put-last (surrendered .put-field5 .ensures)))))
+    (put-then (filed .put-short .ensures)
+    (put-then (stock .put-field2 .ensures) (put-then (received .put-field3 .ensures) (put-last (surrendered .put-field4 .ensures)))))
 
 pub put-amounts-spec : {M : Type 1} → statement M
 put-amounts-spec =
@@ -25,7 +25,6 @@ put-amounts-spec =
     (tie.spec
     (λ c κs. search needs)
     (λ c κs. search needs)
-    (λ c. search needs)
     (λ c κs. search needs)
     (λ c κs. search needs)
     (λ c κs. search needs)

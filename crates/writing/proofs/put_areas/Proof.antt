@@ -14,7 +14,7 @@ use Rattle.writing.proofs.put_areas.Statement.{statement}
 use Rattle.writing.proofs.put_areas.Tie as tie
 
 abbrev Inv-loop : tie.InvT-loop
-Inv-loop out₀ at holding n next₀ i₀ out next i = (i ≤ 16) × Put (2020 * i) out₀ at (texts areaText (take i (take n (holding .areas)))) out next
+Inv-loop out₀ at holding n next₀ i₀ out next i = (i ≤ 16) × Put (985 * i) out₀ at (texts areaText (take i (take n (holding .areas)))) out next
 
 abbrev μ-loop : tie.MeasureT-loop
 μ-loop out₀ at holding n next₀ i₀ out next i = 16 - i
@@ -32,7 +32,7 @@ same-length c = wrote-length (c .before .before .loop .inv .1 .wrote)
 returns : tie.Need-returns Inv-loop μ-loop
 returns c =
     let b = c .before .before in
-    put-within (omega (arith, b .loop .inv .0)) (put-end areaText _ _ (b .loop .i) 2020 (b .loop .inv .1) (c .if1 .taken))
+    put-within (omega (arith, b .loop .inv .0)) (put-end areaText _ _ (b .loop .i) 985 (b .loop .inv .1) (c .if1 .taken))
 
 mul-area : tie.Need-mul-area Inv-loop μ-loop
 mul-area c = omega arith
@@ -55,7 +55,7 @@ loop-again c =
     let e = p .before .before .before in
     let b = e .before .before in (
       omega arith,
-      put-next areaText _ _ (b .loop .i) 2020 (b .loop .inv .1) _ (e .if1 .left) (omega (arith, sixteen (b .before .before))) (p .put-area .ensures),
+      put-next areaText _ _ (b .loop .i) 985 (b .loop .inv .1) _ (e .if1 .left) (omega (arith, sixteen (b .before .before))) (p .put-area .ensures),
     )
 
 same-length-2 : tie.Need-same-length-2 Inv-loop μ-loop
@@ -66,7 +66,7 @@ returns-2 c =
     let b = c .before in
     let a = b .before .before .args .t3 in
     put-within (omega (arith, b .loop .inv .0))
-    (put-out areaText (a .areas) (a .count) (b .loop .i) 2020 (b .loop .inv .1) (omega (arith, c .loop-test .left, sixteen (b .before .before))))
+    (put-out areaText (a .areas) (a .count) (b .loop .i) 985 (b .loop .inv .1) (omega (arith, c .loop-test .left, sixteen (b .before .before))))
 
 pub put-areas-spec : {M : Type 1} → statement M
 put-areas-spec =

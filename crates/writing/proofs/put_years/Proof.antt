@@ -9,23 +9,19 @@ returns : tie.Need-returns
 unfolding yearsText joined
 returns c =
     let latest = c .before .before in
-    let openYear = latest .before .before .before .before .before in
-    let opening = openYear .before .before .before .before .before in
-    let number = opening .before .before .before .before .before in
-    put-then (number .put-field .ensures)
-    (put-then (opening .put-field2 .ensures) (put-then (openYear .put-field3 .ensures) (put-last (latest .put-field4 .ensures))))
+    let openYear = latest .before .before .before .before in
+    let opening = openYear .before .before .before .before in
+    let number = opening .before .before .before .before in
+    put-then (number .put-short .ensures)
+    (put-then (opening .put-short2 .ensures) (put-then (openYear .put-short3 .ensures) (put-last (latest .put-short4 .ensures))))
 
 pub put-years-spec : {M : Type 1} → statement M
 put-years-spec =
     tie.close
     (tie.spec
-    (λ c. search needs)
     (λ c κs. search needs)
-    (λ c. search needs)
     (λ c κs. search needs)
-    (λ c. search needs)
     (λ c κs. search needs)
-    (λ c. search needs)
     (λ c κs. search needs)
     (λ c. search needs)
     returns)

@@ -168,7 +168,7 @@ fn the_longest_statement_has_9301_bytes() {
     assert_eq!(statement::read(&written), Ok(largest()));
 }
 
-/// The header's CARBON_OUT_BYTES, 12288, are a bound.
+/// The header's CARBON_OUT_BYTES, 15888, are a bound.
 #[test]
 fn the_longest_answers() {
     let mut holding = largest();

@@ -1,10 +1,9 @@
--- `printing::put_short` meets its contract: a number of sixteen bits has at most five digits.
+-- `records::put_short` meets its contract: a number of sixteen bits has at most five digits.
 use native.Mathlib.Omega.{arith}
-use Rattle.printing.proofs.Lengths.{number-few}
-use Rattle.printing.proofs.Parts.{put-few}
+use Rattle.records.proofs.Puts.{number-few, put-few}
 use borrow.Author.Needs.{needs}
-use Rattle.printing.proofs.put_short.Statement.{statement}
-use Rattle.printing.proofs.put_short.Tie as tie
+use Rattle.records.proofs.put_short.Statement.{statement}
+use Rattle.records.proofs.put_short.Tie as tie
 
 returns : tie.Need-returns
 returns c =
