@@ -1,5 +1,5 @@
 -- `tables::column_of` meets its contract, by a walk of its MIR: the lent table is taken apart, and what `column_in` promises of the cells, the lengths and the number is what is promised here.
--- A lent table is Copy: what it owns is had twice. One copy is kept whole for the exit, and of the other what the cells and the lengths own goes to the callee. What a number owns is made anew.
+-- A lent table is Copy: what it owns is had twice, once whole for the exit and once, field by field, for the callee.
 use mathlib.Core.Path.{_≡_, refl}
 use Prim.Native.Nat.{ℕ, _<_, _^_}
 use mathlib.Core.List.{List, [], _∷_, map, map-id}
