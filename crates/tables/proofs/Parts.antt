@@ -1,10 +1,10 @@
--- Parts of a table: a part that runs past the end is what is there, and a column is a part.
+-- Parts of a table: a part that runs past the end is what is there, and a column's length is among the first ten numbers.
 use Prim.Native.Nat.{ℕ, _+_, _-_, _<_, _≤_}
 use mathlib.Core.Path.{_≡_, sym, _∙_}
 use mathlib.Core.List.{List, []}
 use native.Mathlib.Omega.{arith}
 use lib.ListN.{length, getD, take, drop, length-take, length-drop, drop-of-length-le, List·getD-eq-default}
-use lib.Seq.{take-all, take-nil, take-take, getD-take}
+use lib.Seq.{take-all, take-nil, getD-take}
 use Rattle.laws.specs.Lists.{sumOf}
 use Rattle.tables.specs.Participant.{lengthOf, ownColumn}
 
@@ -37,11 +37,3 @@ module _ (table : List ℕ) (number : ℕ) where
   pub short-table : length table < 10 → [] ≡ ownColumn table number
   unfolding ownColumn
   short-table h = part-past table (10 + sumOf (take number (take 10 table))) (lengthOf table number) (omega arith)
-
-  pub no-column : 10 ≤ number → [] ≡ ownColumn table number
-  unfolding ownColumn
-  no-column h = rw (← no-length h)
-
-  pub column-part : number < 10 → take (lengthOf table number) (drop (10 + sumOf (take number table)) table) ≡ ownColumn table number
-  unfolding ownColumn
-  column-part h = rw (take-take number 10 table (omega arith))

@@ -2,10 +2,10 @@
 -- (0 to 101), for stock of P, D, S, H, N, then residue in that order; then the cells in tenths, at most 30,000 each (else 6), ages from 0,
 -- columns joined, no remainder. .. The empty list means no participant's table."
 use Prim.Native.Nat.{ℕ, _+_}
-use mathlib.Core.Bool.{Bool, not, _&&_, _||_}
+use mathlib.Core.Bool.{Bool, cond, not, _&&_, _||_}
 use mathlib.Core.List.{List, [], _∷_}
 use lib.Dec.{leb, eqb}
-use lib.ListN.{length, getD, take, drop}
+use lib.ListN.{length, getD, take, drop, replicate}
 use Rattle.laws.specs.Lists.{eachAtMost, sumOf}
 use Rattle.refusals.specs.declared.Refusal.the-variants.{TableColumn}
 use Rattle.refusals.specs.declared.Verdict.{Verdict}
@@ -48,3 +48,11 @@ lengthOf table number = getD (lengthsOf table) number 0
 
 unfoldable pub ownColumn : List ℕ → ℕ → List ℕ
 ownColumn table number = take (lengthOf table number) (drop (columnCount + sumOf (take number (lengthsOf table))) table)
+
+-- "A participant's table is lent together with the length of each column": of a list of less than ten numbers, ten of 0
+unfoldable pub lentLengths : List ℕ → List ℕ
+lentLengths table = cond (leb columnCount (length table)) (lengthsOf table) (replicate columnCount 0)
+
+-- "columns joined": a column's cells, out of the cells lent and the length of each column
+unfoldable pub lentColumn : List ℕ → List ℕ → ℕ → List ℕ
+lentColumn cells lengths number = take (getD lengths number 0) (drop (sumOf (take number lengths)) cells)

@@ -3,7 +3,7 @@ ghost use mathlib.Core.Path.{_≡_};
 ghost use Prim.Native.Nat.{_+_, _≤_};
 ghost use lib.ListN.{length, take, drop};
 ghost use Rattle.laws.specs.Lists.{eachAtMost, sumOf};
-ghost use Rattle.tables.specs.Participant.{hasColumns, judged, lengthOf, ownColumn};
+ghost use Rattle.tables.specs.Participant.{cellsOf, hasColumns, judged, lengthOf, lentColumn, lentLengths, ownColumn};
 use refusals::Refusal;
 use refusals::Verdict;
 
@@ -91,16 +91,63 @@ pub fn column_length(table: &[u16], number: usize) -> usize
     table[number] as usize
 }
 
+// A participant's table as it is lent: the cells, together with the length of each column.
+pub struct LentTable<'a> {
+    pub cells: &'a [u16],
+    pub lengths: [u16; COLUMNS],
+}
+
+fn lengths_of(table: &[u16]) -> [u16; COLUMNS]
+    ensures { λ r. ⌜ r ≡ lentLengths (now (table .entry)) ⌝ }
+{
+    let mut lengths = [0u16; COLUMNS];
+    if table.len() < COLUMNS {
+        return lengths;
+    }
+    let mut i = 0;
+    while i < COLUMNS {
+        lengths[i] = table[i];
+        i += 1;
+    }
+    lengths
+}
+
+fn cells_of(table: &[u16]) -> &[u16]
+    ensures { λ r. ⌜ now r ≡ cellsOf (now (table .entry)) ⌝ }
+{
+    part(table, COLUMNS, table.len())
+}
+
+// A list of less than ten numbers is lent with ten lengths of 0 and no cells.
+pub fn lend<'a>(table: &'a [u16]) -> LentTable<'a>
+    ensures { λ r. ⌜ (now (r .cells) ≡ cellsOf (now (table .entry))) × (r .lengths ≡ lentLengths (now (table .entry))) ⌝ }
+{
+    LentTable {
+        cells: cells_of(table),
+        lengths: lengths_of(table),
+    }
+}
+
+fn column_in(cells: &[u16], lengths: [u16; COLUMNS], number: usize) -> &[u16]
+    ensures { λ r. ⌜ now r ≡ lentColumn (now (cells .entry)) lengths number ⌝ }
+{
+    if COLUMNS <= number {
+        return &cells[0..0];
+    }
+    let start = sum(&lengths[0..number]);
+    part(cells, start, lengths[number] as usize)
+}
+
+// The cells of a lent table's column by its number: the table is taken apart.
+pub fn column_of<'a>(table: LentTable<'a>, number: usize) -> &'a [u16]
+    ensures { λ r. ⌜ now r ≡ lentColumn (now (table .entry .cells)) (table .entry .lengths) number ⌝ }
+{
+    column_in(table.cells, table.lengths, number)
+}
+
 // The cells of a column by its number.
 pub fn column(table: &[u16], number: usize) -> &[u16]
     ensures { λ r. ⌜ now r ≡ ownColumn (now (table .entry)) number ⌝ }
 {
-    if table.len() < COLUMNS {
-        return &table[0..0];
-    }
-    if COLUMNS <= number {
-        return &table[0..0];
-    }
-    let start = COLUMNS + sum(&table[0..number]);
-    part(table, start, column_length(table, number))
+    column_of(lend(table), number)
 }
