@@ -1,4 +1,5 @@
 pub mod Determined
 pub mod Gathering
 pub mod Judged
+pub mod PlainCall
 pub mod Refused
