@@ -1,5 +1,4 @@
 pub mod Determined
 pub mod Gathering
 pub mod Judged
-pub mod PlainCall
 pub mod Refused
