@@ -15,8 +15,6 @@ unfolding some sumBy weighed weighAll smallest speciesArea weightsOf halfUp mean
 mixed-hectare-spec =
     tie.close
     (tie.spec
-    (λ c. search needs)
-    (λ c. search needs)
     (λ c κs. search needs)
     (λ c κs. eq-eqb (c .aged .result) 11 (c .aged .ensures))
     (λ c. search needs))

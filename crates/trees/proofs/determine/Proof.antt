@@ -1,7 +1,7 @@
 -- `trees::determine` meets its contract: a walk of its MIR, by hand. The slice is looked into before the loop and shut after it; each turn reads one group and gathers it,
 -- and what is gathered once the loop is left answers for the whole list (`going-end`). Of the functions it calls the walk knows their contracts alone.
 use Prim.Native.Nat.{ℕ, _+_, _-_, _*_, _<_, _≤_, _^_, zero-le}
-use mathlib.Core.Path.{_≡_, refl, sym, ap, _∙_, subst}
+use mathlib.Core.Path.{_≡_, refl, sym, _∙_, subst}
 use mathlib.Core.Bool.{Bool, true, false}
 use mathlib.Core.List.{List, [], _∷_}
 use mathlib.Core.WellFounded.{WellFounded, InvImage·wf}
@@ -24,7 +24,7 @@ use prog.Wp.{Heap, Out, Env, afterSeq, afterBlock, afterTurn, Calls, Loops, Wp, 
 use ghost.Atoms.{Atoms, sem}
 use contract.Monad.{Fun, fact}
 use contract.Running.{givenOf, tables, tablesOf}
-use types.Kit.{Given, Item, ‵, _⊛_, runs, anyQ, atRet, Sq, ⋆, _$_, _∵_, !, qed, by, move, keep, drop, use1, split, join, rewrite, fsplit, fjoin, suffices, frame, done}
+use types.Kit.{Given, Item, ‵, _⊛_, runs, anyQ, atRet, Sq, _$_, _∵_, !, qed, by, move, drop, split, join, rewrite, fsplit, fjoin, suffices, frame, done}
 use types.Part.{whole, sub, look-in}
 use types.Run.{look, look-raw, store, init, forget, stop, hop, fld, from, load, lit, of-opd, bin, and-then, no-more, assigns, assigns-last, land, first, blocks, stays, leaves-loop, returns, enter, alloc1, alloc0, params1, pass1, pass0, free1, free0, exec, Below, again, loops}
 use types.Share.{arr-parts}
@@ -33,11 +33,10 @@ use denote.RattleType.{owns}
 use denote.Laws.{Is, shows}
 use denote.Memory.{pointee, shares}
 use denote.Plain.{uint-makes}
-use denote.Builtin.{usize}
 use denote.Index.{place-is, row, elem-out, elem-back, looks-slice, shuts-slice}
 use denote.Ref.{RefT}
 use denote.Signature.{Slot, plain, shrSliceOf}
-use denote.Slice.{sliceTy, sliceVal, ShrSlice, Room, slice-vals, shr-slice-tells, shr-slice-copy}
+use denote.Slice.{sliceTy, sliceVal, ShrSlice, Room, slice-vals, shr-slice-tells}
 use denote.Steps.{owned, nothing}
 use denote.Enum.Laws as EL
 use denote.Struct.Laws as LL

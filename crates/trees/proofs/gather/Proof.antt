@@ -1,5 +1,5 @@
 -- `trees::gather` meets its contract: a place past the last is not stored to, and a store there would change nothing.
-use mathlib.Core.Path.{_≡_, refl, sym, ap, _∙_}
+use mathlib.Core.Path.{_≡_}
 use native.Mathlib.Omega.{arith}
 use borrow.Author.Needs.{needs}
 use lib.ListN.{length}
