@@ -60,6 +60,7 @@ use Rattle.examples_land.proofs.determined as determined
 use Rattle.examples_land.proofs.determined.Statement as stated
 use Rattle.examples_land.proofs.determined.Code as code
 
+-- G and X are the types Group and Hectare, and G′ and X′ their laws. At exit nothing is had of the array, and nothing is said of it
 abbrev param : Slot 0
 param = arrayOf (plain (λ _. G.the-row)) 3
 

@@ -77,7 +77,7 @@ use Rattle.trees.proofs.determine.Statement as stated
 use Rattle.trees.proofs.determine.Code as code
 use Rattle.trees.proofs.determine.Code.Mir as mir
 
--- at exit nothing is had of the slice, and nothing is said of it
+-- G, F and X are the types Group, Gathered and Hectare, and G′, F′ and X′ their laws. At exit nothing is had of the slice, and nothing is said of it
 abbrev param : Slot 1
 param = shrSliceOf (0 ∷ []) tt (plain (λ _. G.the-row))
 
