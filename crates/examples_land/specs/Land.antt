@@ -21,5 +21,5 @@ abbrev pub ageIn : Hectare → ℕ
 ageIn (Of forest age) = age
 ageIn (Turned r) = 0
 
-unfoldable pub agedOf : ℕ → List Group → ℕ
-agedOf count gs = ageIn (hectareOf count gs)
+unfoldable pub agedOf : List Group → ℕ
+agedOf gs = ageIn (hectareOf gs)

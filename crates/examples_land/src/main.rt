@@ -1,6 +1,7 @@
 // Runs the guide's examples of pre-1990 land and of the trees of a hectare (002, 4.5 and 5.2).
 ghost use mathlib.Core.Path.{_≡_};
 ghost use lib.ListN.{take};
+ghost use Rattle.trees.specs.Hectares.{hectareOf};
 ghost use Rattle.examples_land.specs.Land.{tonnesOf, agedOf};
 use clearings::Clearing;
 use deforestation::Emissions;
@@ -21,11 +22,18 @@ fn emitted(parcels: [Parcel; 64], count: usize) -> u64
     }
 }
 
-// The age of a hectare; 0 where its tree list is refused.
-fn aged(groups: [Group; 64], count: usize) -> u16
-    ensures { λ r. ⌜ r ≡ agedOf count (take count groups) ⌝ }
+// Three tree groups, lent as a list.
+fn determined(groups: [Group; 3]) -> Hectare
+    ensures { λ r. ⌜ r ≡ hectareOf groups ⌝ }
 {
-    let hectare = trees::determine(groups, count);
+    trees::determine(&groups)
+}
+
+// The age of a hectare; 0 where its tree list is refused.
+fn aged(groups: [Group; 3]) -> u16
+    ensures { λ r. ⌜ r ≡ agedOf groups ⌝ }
+{
+    let hectare = determined(groups);
     match hectare {
         Hectare::Of { forest: _, age } => age,
         Hectare::Turned(_) => 0,
@@ -143,10 +151,7 @@ fn mixed_hectare() {
         age: 90,
         basal_area: 500,
     };
-    let mut groups = [nitens; 64];
-    groups[1] = fraxinoides;
-    groups[2] = kanuka;
-    check::expect(aged(groups, 3) == 11);
+    check::expect(aged([nitens, fraxinoides, kanuka]) == 11);
 }
 
 fn main() {

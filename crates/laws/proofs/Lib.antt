@@ -1,3 +1,4 @@
+pub mod Calls
 pub mod Choosing
 pub mod Distinct
 pub mod Elements

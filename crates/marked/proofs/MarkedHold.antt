@@ -13,10 +13,10 @@ use Rattle.entries.specs.Rules.{parsed, addRule}
 use Rattle.lines.specs.Lines.{bodyOf, holdsEnd, letterOf, ruleOf, lineRule, conditions, entryOf}
 use Rattle.groups.specs.Sums.{speciesArea, weightsOf, halfUp, meanAge}
 use Rattle.predominance.specs.Predominance.{leading, predominantOf}
-use Rattle.trees.specs.Hectares.{faultsOf, cases, answerOf, hectareOf}
+use Rattle.trees.specs.Hectares.{faultsOf, cases, answerOf, heldOf, hectareOf}
 use Rattle.marked.specs.Marked.{Every, marked}
 
 pub marked-hold : Every marked
-unfolding some sumBy tenthsOf tonnes nearestTonne weighed weighAll smallest beside letterNames named shareAfter extend split append more headed numberIn wholes withDecimals decimalIn hectaresIn parsed addRule bodyOf holdsEnd letterOf ruleOf lineRule conditions entryOf speciesArea weightsOf halfUp meanAge leading predominantOf faultsOf cases answerOf hectareOf
+unfolding some sumBy tenthsOf tonnes nearestTonne weighed weighAll smallest beside letterNames named shareAfter extend split append more headed numberIn wholes withDecimals decimalIn hectaresIn parsed addRule bodyOf holdsEnd letterOf ruleOf lineRule conditions entryOf speciesArea weightsOf halfUp meanAge leading predominantOf faultsOf cases answerOf heldOf hectareOf
 marked-hold =
     (refl, (refl, (refl, (refl, (refl, (refl, (refl, (refl, (refl, (refl, (refl, (refl, (refl, (refl, tt))))))))))))))

@@ -3,7 +3,6 @@ use Prim.Native.Nat.{ℕ}
 use mathlib.Core.Path.{_≡_}
 use mathlib.Core.List.{List, [], _∷_}
 use lib.IntN.{ℤ, pos, negsuc}
-use lib.ListN.{length}
 use Rattle.units.specs.Tonnes.{nearestTonne}
 use Rattle.refusals.specs.declared.Refusal.the-variants.{Hectares}
 use Rattle.forest.specs.declared.Region.the-variants.{Auckland}
@@ -31,7 +30,7 @@ pub data Example : Type 0 where
 
 abbrev pub Says : Example → Type 0
 Says (Line bytes parsed) = entryOf bytes ≡ parsed
-Says (Trees groups hectare) = hectareOf (length groups) groups ≡ hectare
+Says (Trees groups hectare) = hectareOf groups ≡ hectare
 Says (Tonnes kilograms tonnes) = nearestTonne kilograms ≡ tonnes
 Says (Share years tenths) = shareAfter years ≡ tenths
 

@@ -1,15 +1,17 @@
 -- What is determined of a hectare: the type is that of a predominant species, and the age lies between the least and the greatest of its type.
 use Prim.Native.Nat.{ℕ, _≤_, _<_}
+use mathlib.Core.Bool.{Bool}
 use mathlib.Core.Path.{_≡_, refl, sym, ap, _∙_}
 use mathlib.Core.List.{List, [], _∷_, List·Memᴰ}
 use native.Mathlib.Omega.{arith}
 use native.Mathlib.Nat.{div-zero}
 use borrow.Author.Tests.{eq-eqb}
+use lib.ListN.{length}
 use Rattle.laws.specs.Elements.{sumBy}
 use Rattle.laws.proofs.Choosing.{Best}
 use Rattle.refusals.specs.declared.Verdict.{Verdict}
 use Rattle.refusals.specs.declared.Verdict.the-variants.{Clear, Turned as Refused}
-use Rattle.refusals.specs.Refusals.{smallest}
+use Rattle.refusals.specs.Refusals.{Case, smallest}
 use Rattle.forest.specs.Order.{orderOf}
 use Rattle.forest.specs.declared.Forest.{Forest}
 use Rattle.groups.specs.declared.Group.{Group}
@@ -18,7 +20,7 @@ use Rattle.predominance.specs.Predominance.{predominantOf}
 use Rattle.predominance.proofs.Order.{Ahead, predominant-best}
 use Rattle.groups.proofs.Mean.{Between, mean-between, area-positive}
 use Rattle.trees.specs.declared.Hectare.the-variants.{Of}
-use Rattle.trees.specs.Hectares.{cases, answerOf, hectareOf}
+use Rattle.trees.specs.Hectares.{bareIn, cases, answerOf, heldOf, hectareOf}
 use Rattle.trees.proofs.Judged.{Judged, judged}
 
 pub record Determined (gs : List Group) (forest : Forest) (age : ℕ) : Type 0 where
@@ -46,30 +48,33 @@ module _ (count : ℕ) (g : Group) (gs : List Group) (ok : Judged count (g ∷ g
     between = λ lo hi b. mean-between (l .forest) lo hi (g ∷ gs) b type-has-area;
   }
 
-pub determined : (count : ℕ) (g : Group) (gs : List Group) (forest : Forest) (age : ℕ) → hectareOf count (g ∷ gs) ≡ Of forest age → Determined (g ∷ gs) forest age
-unfolding hectareOf answerOf
-determined count g gs forest age e = go (smallest (cases count (g ∷ gs))) refl e
+pub determined : (g : Group) (gs : List Group) (forest : Forest) (age : ℕ) → hectareOf (g ∷ gs) ≡ Of forest age → Determined (g ∷ gs) forest age
+unfolding hectareOf heldOf answerOf
+determined g gs forest age e = go (smallest all) refl e
   where
-    go : (v : Verdict) → smallest (cases count (g ∷ gs)) ≡ v → answerOf v (g ∷ gs) ≡ Of forest age → Determined (g ∷ gs) forest age
+    all : List Case
+    all = cases (length (g ∷ gs)) (bareIn (g ∷ gs)) (g ∷ gs)
+
+    go : (v : Verdict) → smallest all ≡ v → answerOf v (g ∷ gs) ≡ Of forest age → Determined (g ∷ gs) forest age
     go (Refused r) c e = absurd (let z : _≡_ {A = ℕ} 0 1 = cc in omega arith)
     go Clear c e =
         let f : predominantOf (g ∷ gs) .forest ≡ forest = cc in
         let a : meanAge (g ∷ gs) (predominantOf (g ∷ gs) .forest) ≡ age = cc in
-        rw (← a, ← f) (of-leader count g gs (judged count (g ∷ gs) c))
+        rw (← a, ← f) (of-leader _ g gs (judged _ _ (g ∷ gs) c))
 
-mean-at-most : (count : ℕ) (gs : List Group) → smallest (cases count gs) ≡ Clear → meanAge gs (predominantOf gs .forest) ≤ 300
+mean-at-most : (count : ℕ) (bare : Bool) (gs : List Group) → smallest (cases count bare gs) ≡ Clear → meanAge gs (predominantOf gs .forest) ≤ 300
 unfolding meanAge weightsOf halfUp sumBy
-mean-at-most count [] c = omega (arith, div-zero 0)
-mean-at-most count (g ∷ gs) c =
-    let ok = judged count (g ∷ gs) c in
+mean-at-most count bare [] c = omega (arith, div-zero 0)
+mean-at-most count bare (g ∷ gs) c =
+    let ok = judged count bare (g ∷ gs) c in
     of-leader count g gs ok .between 0 300 (λ h m t. (omega arith, ok .ranges h m .age)) .1
 
 -- the answer of a clear verdict
-module _ (count : ℕ) (gs : List Group) (v : Verdict) (weighed : v ≡ smallest (cases count gs)) where
-  pub when-clear : (leader : Group) (age : ℕ) → v ≡ Clear → leader ≡ predominantOf gs → age ≡ meanAge gs (leader .forest) → Of (leader .forest) age ≡ hectareOf count gs
-  unfolding hectareOf answerOf
+module _ (count : ℕ) (bare : Bool) (gs : List Group) (v : Verdict) (weighed : v ≡ smallest (cases count bare gs)) where
+  pub when-clear : (leader : Group) (age : ℕ) → v ≡ Clear → leader ≡ predominantOf gs → age ≡ meanAge gs (leader .forest) → Of (leader .forest) age ≡ heldOf count bare gs
+  unfolding heldOf answerOf
   when-clear leader age e l a = rw (a, l) (ap (λ (w : Verdict). answerOf w gs) (sym e ∙ weighed))
 
   -- so an age is at most 300
   pub age-at-most : (leader : Group) (age : ℕ) → v ≡ Clear → leader ≡ predominantOf gs → age ≡ meanAge gs (leader .forest) → age ≤ 300
-  age-at-most leader age e l a = rw (a, l) (mean-at-most count gs (sym weighed ∙ e))
+  age-at-most leader age e l a = rw (a, l) (mean-at-most count bare gs (sym weighed ∙ e))

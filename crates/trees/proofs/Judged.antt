@@ -47,9 +47,9 @@ and-not false b e f = absurd (let z : _≡_ {A = ℕ} 0 1 = cc in omega arith)
 one-type : (g h : Group) → otherType g h ≡ false → h .species ≡ g .species → h .forest ≡ g .forest
 one-type g h e s = same-type (h .forest) (g .forest) (and-not (ofSpecies (g .species) h) (ofType (g .forest) h) (eq-eqb (h .species) (g .species) s) e)
 
-pub judged : (count : ℕ) (gs : List Group) → smallest (cases count gs) ≡ Clear → Judged count gs
+pub judged : (count : ℕ) (bare : Bool) (gs : List Group) → smallest (cases count bare gs) ≡ Clear → Judged count gs
 unfolding smallest weighAll cases faultsOf
-judged count gs e = record {
+judged count bare gs e = record {
   at-least = let z : count ≡ 0 → ⊥ = eqb-false count 0 (or-false-left (eqb count 0) (ltb 64 count) number) in omega arith;
   at-most = ltb-false 64 count (or-false-right (eqb count 0) (ltb 64 count) number);
   ranges = λ g m. in-range g (none-passes outOfRange g gs range m);
@@ -57,7 +57,7 @@ judged count gs e = record {
 }
   where
     v1 : Verdict
-    v1 = weighed Clear (faultsOf gs .bare) ForestType
+    v1 = weighed Clear bare ForestType
 
     v2 : Verdict
     v2 = weighed v1 (eqb count 0 || ltb 64 count) TreeList

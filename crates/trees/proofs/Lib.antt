@@ -1,3 +1,4 @@
 pub mod Determined
+pub mod Gathering
 pub mod Judged
 pub mod Refused

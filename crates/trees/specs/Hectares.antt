@@ -3,6 +3,7 @@ use Prim.Native.Nat.{ℕ}
 use mathlib.Core.Bool.{Bool, not, _&&_, _||_}
 use mathlib.Core.List.{List, [], _∷_}
 use lib.Dec.{eqb, ltb}
+use lib.ListN.{length}
 use Rattle.laws.specs.Elements.{some}
 use Rattle.refusals.specs.declared.Refusal.the-variants.{ForestType, TreeList}
 use Rattle.refusals.specs.declared.Verdict.{Verdict}
@@ -26,17 +27,20 @@ otherType g h = ofSpecies (g .species) h && not (ofType (g .forest) h)
 
 unfoldable pub faultsOf : List Group → Faults
 faultsOf gs = record {
-  bare = some (ofType Bare) gs;
   «out_of_range» = some outOfRange gs;
   -- "one species under two types"
   «two_types» = some (λ g. some (otherType g) gs) gs;
 }
 
--- of the groups that are held, and the number of groups given
-unfoldable pub cases : ℕ → List Group → List Case
-cases count gs =
+-- whether some group is bare land
+abbrev pub bareIn : List Group → Bool
+bareIn gs = some (ofType Bare) gs
+
+-- of the number of groups given, whether one of them is bare land, and the groups that are held
+unfoldable pub cases : ℕ → Bool → List Group → List Case
+cases count bare gs =
     -- "3 type (B too in a .. tree ..)"
-    faultsOf gs .bare ⇒ ForestType
+    bare ⇒ ForestType
     -- "7 tree list: none or over 64 groups, age over 300, basal area 0 or over 1000000, one species under two types"
     ∷ (eqb count 0 || ltb 64 count) ⇒ TreeList
     ∷ faultsOf gs .«out_of_range» ⇒ TreeList
@@ -48,5 +52,9 @@ unfoldable pub answerOf : Verdict → List Group → Hectare
 answerOf (Refused refusal) gs = Turned refusal
 answerOf Clear gs = Of (predominantOf gs .forest) (meanAge gs (predominantOf gs .forest))
 
-unfoldable pub hectareOf : ℕ → List Group → Hectare
-hectareOf count gs = answerOf (smallest (cases count gs)) gs
+unfoldable pub heldOf : ℕ → Bool → List Group → Hectare
+heldOf count bare gs = answerOf (smallest (cases count bare gs)) gs
+
+-- "The tree groups of one hectare are lent as a list of records": all of them are held
+unfoldable pub hectareOf : List Group → Hectare
+hectareOf gs = heldOf (length gs) (bareIn gs) gs

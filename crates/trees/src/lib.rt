@@ -7,16 +7,22 @@ ghost use mathlib.Core.Path.{_≡_};
 ghost use lib.ListN.{take};
 ghost use Rattle.laws.specs.Elements.{some};
 ghost use Rattle.refusals.specs.Refusals.{smallest};
-ghost use Rattle.trees.specs.Hectares.{outOfRange, otherType, faultsOf, cases, hectareOf};
+ghost use Rattle.trees.specs.Gathering.{noneGathered, gathering};
+ghost use Rattle.trees.specs.Hectares.{outOfRange, otherType, faultsOf, cases, heldOf, hectareOf};
 
 pub enum Hectare {
     Of { forest: Forest, age: u16 },
     Turned(Refusal),
 }
 
+// The groups of a list, as many as the 64 places hold, and whether any of the whole list is bare land.
+struct Gathered {
+    groups: [Group; 64],
+    bare: bool,
+}
+
 // What is wrong with some group of a list.
 struct Faults {
-    bare: bool,
     out_of_range: bool,
     two_types: bool,
 }
@@ -55,52 +61,91 @@ fn two_types(groups: [Group; 64], count: usize, g: Group) -> bool
 fn find_faults(groups: [Group; 64], count: usize) -> Faults
     ensures { λ r. ⌜ r ≡ faultsOf (take count groups) ⌝ }
 {
-    let mut bare = false;
     let mut range = false;
     let mut types = false;
     let mut i: usize = 0;
     while i < 64 {
         if count <= i {
             return Faults {
-                bare,
                 out_of_range: range,
                 two_types: types,
             };
         }
         let g = groups[i];
-        let f = g.forest;
-        bare = bare | forest::same(f, Forest::Bare);
         range = range | out_of_range(g);
         types = types | two_types(groups, count, g);
         i += 1;
     }
     Faults {
-        bare,
         out_of_range: range,
         two_types: types,
     }
 }
 
-fn judge(groups: [Group; 64], count: usize) -> Verdict
-    ensures { λ v. ⌜ v ≡ smallest (cases count (take count groups)) ⌝ }
+fn judge(found: Gathered, count: usize) -> Verdict
+    ensures { λ v. ⌜ v ≡ smallest (cases count (found .bare) (take count (found .groups))) ⌝ }
 {
-    let found = find_faults(groups, count);
+    let groups = found.groups;
+    let faults = find_faults(groups, count);
     let bare = refusals::weigh(Verdict::Clear, found.bare, Refusal::ForestType);
     let number = refusals::weigh(bare, (count == 0) | (64 < count), Refusal::TreeList);
-    let range = refusals::weigh(number, found.out_of_range, Refusal::TreeList);
-    refusals::weigh(range, found.two_types, Refusal::TreeList)
+    let range = refusals::weigh(number, faults.out_of_range, Refusal::TreeList);
+    refusals::weigh(range, faults.two_types, Refusal::TreeList)
 }
 
-// The type and age of the hectare whose tree groups are the first `count` of the array, or the refusal of its list.
-pub fn determine(groups: [Group; 64], count: usize) -> Hectare
-    ensures { λ r. ⌜ r ≡ hectareOf count (take count groups) ⌝ }
+// The type and age of a hectare whose list of `count` tree groups is gathered, or the refusal of the list.
+fn type_and_age(found: Gathered, count: usize) -> Hectare
+    ensures { λ r. ⌜ r ≡ heldOf count (found .bare) (take count (found .groups)) ⌝ }
 {
-    let verdict = judge(groups, count);
+    let verdict = judge(found, count);
     if let Verdict::Turned(refusal) = verdict {
         return Hectare::Turned(refusal);
     }
+    let groups = found.groups;
     let leader = predominance::predominant(groups, count);
     let forest = leader.forest;
     let age = groups::mean_age(groups, count, forest) as u16;
     Hectare::Of { forest, age }
+}
+
+fn none_gathered() -> Gathered
+    ensures { λ r. ⌜ r ≡ noneGathered ⌝ }
+{
+    let none = Group {
+        species: 0,
+        forest: Forest::Bare,
+        age: 0,
+        basal_area: 0,
+    };
+    Gathered {
+        groups: [none; 64],
+        bare: false,
+    }
+}
+
+// One group more, at its place in the list; a place past 64 is not held.
+fn gather(found: Gathered, at: usize, g: Group) -> Gathered
+    ensures { λ r. ⌜ r ≡ gathering found at g ⌝ }
+{
+    let mut groups = found.groups;
+    let f = g.forest;
+    let bare = found.bare | forest::same(f, Forest::Bare);
+    if at < 64 {
+        groups[at] = g;
+        return Gathered { groups, bare };
+    }
+    Gathered { groups, bare }
+}
+
+// The type and age of the hectare with these tree groups, or the refusal of their list.
+pub fn determine(groups: &[Group]) -> Hectare
+    ensures { λ r. ⌜ r ≡ hectareOf (now (groups .entry)) ⌝ }
+{
+    let mut found = none_gathered();
+    let mut i: usize = 0;
+    while i < groups.len() {
+        found = gather(found, i, groups[i]);
+        i += 1;
+    }
+    type_and_age(found, groups.len())
 }

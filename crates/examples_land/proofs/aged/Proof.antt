@@ -7,11 +7,11 @@ use Rattle.examples_land.proofs.aged.Tie as tie
 
 returns : tie.Need-returns
 unfolding agedOf
-returns c = sym (ap ageIn (sym (c .before .before .before .determine .ensures) ∙ c .before .hectare .given .1))
+returns c = sym (ap ageIn (sym (c .before .before .before .determined .ensures) ∙ c .before .hectare .given .1))
 
 returns-2 : tie.Need-returns-2
 unfolding agedOf
-returns-2 c = sym (ap ageIn (sym (c .before .before .determine .ensures) ∙ c .enum-told .given .1))
+returns-2 c = sym (ap ageIn (sym (c .before .before .determined .ensures) ∙ c .enum-told .given .1))
 
 pub aged-spec : {M : Type 1} → statement M
 aged-spec =

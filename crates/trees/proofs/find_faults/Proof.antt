@@ -9,9 +9,7 @@ use lib.ListN.{length, take, drop}
 use Rattle.laws.specs.Elements.{some}
 use Rattle.laws.proofs.Standing.{as-long}
 use Rattle.laws.proofs.Turns.{some-end, some-out, some-more}
-use Rattle.forest.specs.declared.Forest.the-variants.{Bare}
 use Rattle.groups.specs.declared.Group.{Group}
-use Rattle.groups.specs.Sums.{ofType}
 use Rattle.trees.specs.Hectares.{outOfRange, otherType, faultsOf}
 use Rattle.trees.proofs.find_faults.Statement.{statement}
 use Rattle.trees.proofs.find_faults.Tie as tie
@@ -20,41 +18,38 @@ underTwo : List Group → Group → Bool
 underTwo gs g = some (otherType g) gs
 
 abbrev Inv-loop : tie.InvT-loop
-Inv-loop count groups bare₀ range₀ types₀ i₀ bare range types i =
-    ((bare || some (ofType Bare) (drop i (take count groups))) ≡ faultsOf (take count groups) .bare)
-    × ((range || some outOfRange (drop i (take count groups))) ≡ faultsOf (take count groups) .«out_of_range»)
+Inv-loop count groups range₀ types₀ i₀ range types i =
+    ((range || some outOfRange (drop i (take count groups))) ≡ faultsOf (take count groups) .«out_of_range»)
     × ((types || some (underTwo (take count groups)) (drop i (take count groups))) ≡ faultsOf (take count groups) .«two_types»)
 
 abbrev μ-loop : tie.MeasureT-loop
-μ-loop count groups bare₀ range₀ types₀ i₀ bare range types i = 64 - i
+μ-loop count groups range₀ types₀ i₀ range types i = 64 - i
 
 long : (c : tie.Start Inv-loop μ-loop) → length (c .args .t1) ≡ 64
 long c = search (needs, as-long)
 
 loop-holds : tie.Need-loop-holds Inv-loop μ-loop
 unfolding faultsOf underTwo
-loop-holds c = (refl, refl, refl)
+loop-holds c = (refl, refl)
 
 returns : tie.Need-returns Inv-loop μ-loop
 returns c =
     let v = c .before .before .loop .inv in
-    let e = some-end _ _ _ _ _ _ (v .0) (c .if1 .taken) in
-    let f = some-end _ _ _ _ _ _ (v .1) (c .if1 .taken) in
-    let g = some-end _ _ _ _ _ _ (v .2) (c .if1 .taken) in
-    λ i. record { bare = e i; «out_of_range» = f i; «two_types» = g i }
+    let f = some-end _ _ _ _ _ _ (v .0) (c .if1 .taken) in
+    let g = some-end _ _ _ _ _ _ (v .1) (c .if1 .taken) in
+    λ i. record { «out_of_range» = f i; «two_types» = g i }
 
 loop-again : tie.Need-loop-again Inv-loop μ-loop
 unfolding underTwo
 loop-again c =
-    let b = c .before .before .before .before .before .before in
+    let b = c .before .before .before .before .before in
     let a = b .before .args in
     let i = b .loop .i in
     let v = b .loop .inv in
-    let stands = c .before .before .before .before .if1 .left in
+    let stands = c .before .before .before .if1 .left in
     let held : i < length (a .t1) = omega (arith, long (b .before)) in (
-      some-more (ofType Bare) (a .t1) (a .count) i (b .loop .bare) _ (v .0) _ _ stands held (c .before .before .same .ensures),
-      some-more outOfRange (a .t1) (a .count) i (b .loop .range) _ (v .1) _ _ stands held (c .before .out-of-range .ensures),
-      some-more (underTwo (take (a .count) (a .t1))) (a .t1) (a .count) i (b .loop .types) _ (v .2) _ _ stands held (c .two-types .ensures),
+      some-more outOfRange (a .t1) (a .count) i (b .loop .range) _ (v .0) _ _ stands held (c .before .out-of-range .ensures),
+      some-more (underTwo (take (a .count) (a .t1))) (a .t1) (a .count) i (b .loop .types) _ (v .1) _ _ stands held (c .two-types .ensures),
     )
 
 returns-2 : tie.Need-returns-2 Inv-loop μ-loop
@@ -64,10 +59,9 @@ returns-2 c =
     let i = b .loop .i in
     let v = b .loop .inv in
     let out : length (a .t1) ≤ i = omega (arith, long (b .before)) in
-    let e = some-out (ofType Bare) (a .t1) (a .count) i _ _ (v .0) out in
-    let f = some-out outOfRange (a .t1) (a .count) i _ _ (v .1) out in
-    let g = some-out (underTwo (take (a .count) (a .t1))) (a .t1) (a .count) i _ _ (v .2) out in
-    λ i. record { bare = e i; «out_of_range» = f i; «two_types» = g i }
+    let f = some-out outOfRange (a .t1) (a .count) i _ _ (v .0) out in
+    let g = some-out (underTwo (take (a .count) (a .t1))) (a .t1) (a .count) i _ _ (v .1) out in
+    λ i. record { «out_of_range» = f i; «two_types» = g i }
 
 pub find-faults-spec : {M : Type 1} → statement M
 find-faults-spec =
@@ -79,7 +73,6 @@ find-faults-spec =
     returns
     (λ c. search needs)
     (λ c. search needs)
-    (λ c κs. search needs)
     (λ c κs. search needs)
     (λ c κs. search needs)
     (λ c. search needs)

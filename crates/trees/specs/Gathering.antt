@@ -1,0 +1,19 @@
+-- The groups of a lent list, gathered one by one into 64 places.
+use Prim.Native.Nat.{ℕ}
+use mathlib.Core.Bool.{false, _||_}
+use lib.ListN.{replicate, set}
+use Rattle.forest.specs.declared.Forest.the-variants.{Bare}
+use Rattle.groups.specs.declared.Group.{Group}
+use Rattle.groups.specs.Sums.{ofType}
+use Rattle.trees.specs.declared.Gathered.{Gathered}
+
+-- what stands at a place that no group has taken
+abbrev pub noGroup : Group
+noGroup = record { species = 0; forest = Bare; age = 0; «basal_area» = 0 }
+
+unfoldable pub noneGathered : Gathered
+noneGathered = record { groups = replicate 64 noGroup; bare = false }
+
+-- one group more, at its place in the list; past the last place it is only looked at for bare land
+unfoldable pub gathering : Gathered → ℕ → Group → Gathered
+gathering found at g = record { groups = set (found .groups) at g; bare = found .bare || ofType Bare g }
