@@ -74,16 +74,13 @@ pub fn place(holding: Holding, outcome: Outcome) -> Holding
     ensures { λ r. ⌜ r ≡ placed holding outcome ⌝ }
 {
     let found = outcome.place;
-    let area = outcome.area;
     let mut after = holding;
-    match found {
-        Found::At(i) => {
-            if i < 16 {
-                after.areas[i] = area;
-            }
-            after.count = outcome.count;
-            after
+    if let Found::At(i) = found {
+        let area = outcome.area;
+        if i < 16 {
+            after.areas[i] = area;
         }
-        Found::Nowhere => after,
+        after.count = outcome.count;
     }
+    after
 }

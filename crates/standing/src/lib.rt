@@ -1,5 +1,7 @@
 // What stands at a place that a search found, and an area with a sub-area put back.
 ghost use mathlib.Core.Path.{_≡_};
+ghost use Prim.Native.Nat.{_<_};
+ghost use Rattle.holding.specs.declared.Found.the-variants.{At};
 ghost use Rattle.standing.specs.Standing.{known, areaAt, subAt, withSub};
 use holding::Area;
 use holding::Found;
@@ -15,6 +17,14 @@ pub fn is_known(found: Found) -> bool
     }
 }
 
+// The area at a place: the holding is copied only where there is one.
+fn area_in(holding: Holding, i: usize) -> Area
+    requires { ⌜ i < 16 ⌝ }
+    ensures { λ r. ⌜ r ≡ areaAt holding (At i) ⌝ }
+{
+    holding.areas[i]
+}
+
 // The area there, the empty one where none stands.
 pub fn area_at(holding: Holding, found: Found) -> Area
     ensures { λ r. ⌜ r ≡ areaAt holding found ⌝ }
@@ -22,7 +32,7 @@ pub fn area_at(holding: Holding, found: Found) -> Area
     match found {
         Found::At(i) => {
             if i < 16 {
-                return holding.areas[i];
+                return area_in(holding, i);
             }
             holding::empty_area()
         }

@@ -12,10 +12,10 @@ sixteen : (c : tie.Start) → length (c .args .holding .areas) ≡ 16
 sixteen c = search (needs, as-long)
 
 returns : tie.Need-returns
-returns c = placed-here _ _ _ (c .before .before .found .given .1)
+returns c = placed-here _ _ _ (c .before .before .before .found .given .1)
 
 returns-2 : tie.Need-returns-2
-returns-2 c = placed-out _ _ _ (c .before .before .found .given .1) (omega (arith, sixteen (c .before .before .before .before .before)))
+returns-2 c = placed-out _ _ _ (c .before .before .before .found .given .1) (omega (arith, sixteen (c .before .before .before .before .before)))
 
 returns-3 : tie.Need-returns-3
 returns-3 c = placed-nowhere _ _ (c .enum-told .given .1)

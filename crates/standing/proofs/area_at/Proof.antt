@@ -1,20 +1,19 @@
 -- `standing::area_at` meets its contract, by what the search found.
-use mathlib.Core.Path.{_≡_, _∙_}
+use mathlib.Core.Path.{_≡_, sym, ap, _∙_}
 use native.Mathlib.Omega.{arith}
 use lib.ListN.{length}
 use Rattle.laws.proofs.Standing.{as-long}
-use Rattle.standing.proofs.Laws.{area-here, area-out, area-nowhere}
+use Rattle.standing.specs.Standing.{areaAt}
+use Rattle.standing.proofs.Laws.{area-out, area-nowhere}
 use borrow.Author.Needs.{needs}
 use Rattle.standing.proofs.area_at.Statement.{statement}
 use Rattle.standing.proofs.area_at.Tie as tie
 
-sixteen : (c : tie.Start) → length (c .args .t1 .areas) ≡ 16
+sixteen : (c : tie.Start) → length (c .args .holding .areas) ≡ 16
 sixteen c = search (needs, as-long)
 
 returns : tie.Need-returns
-returns c =
-    let s = c .before .before .before .before .before in
-    area-here _ _ _ _ (c .before .before .before .found .given .1) (omega (arith, sixteen s))
+returns c = c .area-in .ensures ∙ sym (ap (areaAt _) (c .before .before .before .found .given .1))
 
 returns-2 : tie.Need-returns-2
 returns-2 c =
@@ -29,8 +28,7 @@ area-at-spec =
     tie.close
     (tie.spec
     (λ c. search needs)
-    (λ c. search needs)
-    (λ c. search needs)
+    (λ c κs. search needs)
     returns
     (λ c κs. search needs)
     (λ c. search needs)

@@ -8,7 +8,7 @@ use std::cell::RefCell;
 use std::hint::black_box;
 
 /// The header's CARBON_OUT_BYTES, always enough.
-const ROOM: usize = 12_288;
+const ROOM: usize = 15_888;
 const FILLED: u8 = 0xA5;
 
 pub fn both() -> Result<Pair<Call>, String> {
