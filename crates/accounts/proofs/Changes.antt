@@ -1,6 +1,6 @@
 -- A step reports for an area just the change that the ledger gives: one if it is an accepted return of the area, whose stock and sub-areas
 -- are the row's, and otherwise none.
-use Prim.Native.Nat.{ℕ, _+_}
+use Prim.Native.Nat.{ℕ}
 use mathlib.Core.Bool.{Bool, true, false, cond, _&&_}
 use mathlib.Core.Path.{_≡_, refl, sym, ap, _∙_}
 use mathlib.Core.List.{List, [], _∷_, _++_, append-nil}

@@ -3,16 +3,19 @@ ghost use mathlib.Core.Path.{_≡_};
 ghost use Prim.Native.Nat.{_<_, _*_, _≤_};
 ghost use Rattle.refusals.specs.Refusals.{smallest};
 ghost use Rattle.holding.specs.Holding.{mostSubs};
-ghost use Rattle.adding.specs.Adding.{addCases, addedArea, added};
+ghost use Rattle.adding.specs.Adding.{newSub, addCases, addedArea, added};
+use forest::Forest;
 use holding::Area;
 use holding::Found;
 use holding::Holding;
+use holding::Residue;
 use holding::Sub;
 use outcomes::Outcome;
 use outcomes::Report;
 use refusals::Refusal;
 use refusals::Verdict;
 use units::Kilograms;
+use units::Tenths;
 
 fn verdict(number: u16, sub: Sub, found: Found, area: Area) -> Verdict
     ensures { λ r. ⌜ r ≡ smallest (addCases number sub found area) ⌝ }
@@ -53,7 +56,7 @@ fn added_area<'a>(own: &'a [u16], default: &'a [u16], area: Area, sub: Sub) -> A
     after
 }
 
-pub fn add<'a>(
+fn add_sub<'a>(
     own: &'a [u16],
     default: &'a [u16],
     holding: Holding,
@@ -75,4 +78,32 @@ pub fn add<'a>(
             area: added_area(own, default, area, sub),
         },
     }
+}
+
+// A sub-area enters without residue.
+pub fn add<'a>(
+    own: &'a [u16],
+    default: &'a [u16],
+    holding: Holding,
+    number: u16,
+    sub: u8,
+    land: Tenths,
+    forest: Forest,
+    planted: u16,
+) -> Outcome
+    ensures { λ r. ⌜ r ≡ added (now (own .entry)) (now (default .entry)) holding number (newSub sub land forest planted) ⌝ }
+{
+    let residue = Residue {
+        forest: Forest::Bare,
+        age: 0,
+        year: 0,
+    };
+    let entered = Sub {
+        number: sub,
+        tenths: land,
+        forest,
+        planted,
+        residue,
+    };
+    add_sub(own, default, holding, number, entered)
 }

@@ -94,7 +94,7 @@ module _ (statement table line : List ℕ) where
       let three = smaller-clear statement-part state-part (two .1) in
       (one .0, two .0, three .0, three .1)
 
-  -- "The smallest number that applies is given": no part has a smaller number, and one part has this refusal
+  -- "The smallest number that applies is given": no part has a smaller number
   pub call-smallest : (r : Refusal) → callVerdict statement table line ≡ Refused r
       → From (numberOf r) line-part × From (numberOf r) table-part × From (numberOf r) statement-part × From (numberOf r) state-part
   unfolding callVerdict
@@ -106,6 +106,7 @@ module _ (statement table line : List ℕ) where
       let three = from-both n statement-part state-part (two .1) in
       (one .0, two .0, three .0, three .1)
 
+  -- and one part has this verdict
   pub call-one-of : (v : Verdict) → callVerdict statement table line ≡ v
       → (line-part ≡ v) ⊎ ((table-part ≡ v) ⊎ ((statement-part ≡ v) ⊎ (state-part ≡ v)))
   unfolding callVerdict

@@ -8,13 +8,12 @@ use lib.Dec.{eqb}
 use lib.ListN.{length, getD, take, length-take}
 use lib.Seq.{getD-take}
 use Rattle.text.specs.Fields.{split}
-use Rattle.refusals.specs.declared.Verdict.{Verdict}
-use Rattle.refusals.specs.declared.Verdict.the-variants.{Clear as Accepted, Turned as Refused}
+use Rattle.refusals.specs.declared.Verdict.the-variants.{Clear as Accepted}
 use Rattle.refusals.specs.Refusals.{smallest}
 use Rattle.refusals.proofs.Laws.{NoneApplies, none-applies}
 use Rattle.entries.specs.declared.Entry.{Entry}
 use Rattle.entries.specs.declared.Parsed.the-variants.{Taken}
-use Rattle.entries.specs.Rules.{Rule, parsed, openRule, addRule, clearRule, plantRule, fileRule, withdrawRule}
+use Rattle.entries.specs.Rules.{Rule, openRule, addRule, clearRule, plantRule, fileRule, withdrawRule}
 use Rattle.columns.specs.Columns.{columnRule}
 use Rattle.lines.specs.Lines.{bodyOf, letterOf, noRule, ruleOf, lineRule, conditions, entryOf}
 use Rattle.standing.specs.Standing.{known}

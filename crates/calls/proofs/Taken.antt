@@ -25,7 +25,8 @@ use Rattle.calling.specs.Call.{columnOf}
 use Rattle.calling.proofs.Sorts.{columnOutcome, column-taken, step-taken}
 
 module _ (own : List ℕ) (holding : Holding) (table : isTable own ≡ true) (line : List ℕ) where
-  step-is : (entry : Entry) → columnOf entry ≡ Nowhere → entryTaken own holding line entry ≡ stepped own holding entry
+  -- what a line's entry comes to is a step of demand 3's lists
+  pub step-is : (entry : Entry) → columnOf entry ≡ Nowhere → entryTaken own holding line entry ≡ stepped own holding entry
   unfolding stepped
   step-is entry c = step-taken own holding line entry c .0 ∙ rw table
 

@@ -1,5 +1,5 @@
 -- The bounds on an area's fields that a step relies on, read off the tests that its fields pass.
-use Prim.Native.Nat.{ℕ, _+_, _*_, _≤_}
+use Prim.Native.Nat.{_+_, _*_, _≤_}
 use mathlib.Core.Bool.{true}
 use mathlib.Core.Path.{_≡_}
 use borrow.Author.Tests.{leb-true}

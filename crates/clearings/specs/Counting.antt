@@ -1,6 +1,6 @@
 -- The trees that count for pre-1990 land (002, 4.5): those of the clearing itself from nine years on, else the oldest of the last nine years.
 use Prim.Native.Nat.{ℕ, _+_, _-_}
-use mathlib.Core.Bool.{Bool, cond}
+use mathlib.Core.Bool.{Bool, cond, _&&_}
 use mathlib.Core.List.{List, foldl}
 use lib.Dec.{leb, ltb}
 use Rattle.laws.specs.Elements.{keep, outranks}
@@ -12,7 +12,7 @@ ageOf c = c .cleared - c .planted
 
 -- "at most nine years before its own"
 abbrev pub within : Clearing → Clearing → Bool
-within own c = leb (own .cleared) (c .cleared + 9)
+within own c = leb (c .cleared) (own .cleared) && leb (own .cleared) (c .cleared + 9)
 
 -- "the oldest trees ..; on a tie the later cleared"
 abbrev pub older : Clearing → Clearing → Bool

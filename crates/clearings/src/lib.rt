@@ -26,7 +26,7 @@ pub fn age(c: Clearing) -> u16
 fn is_within(own: Clearing, c: Clearing) -> bool
     ensures { λ r. ⌜ r ≡ within own c ⌝ }
 {
-    own.cleared as u32 <= c.cleared as u32 + 9
+    (c.cleared <= own.cleared) & (own.cleared as u32 <= c.cleared as u32 + 9)
 }
 
 fn is_older(c: Clearing, best: Clearing) -> bool

@@ -1,6 +1,7 @@
--- What stands at a place of a list of bytes, and the place after it. The place 0 is nowhere.
+-- What stands at a place of a list of bytes, and the place after it. The place 0 is nowhere. The reader's own: `accepts-just-when` (trips)
+-- says what it comes to by `carried` and `statementOf` alone.
 use Prim.Native.Nat.{ℕ, zero, suc, _+_}
-use mathlib.Core.Bool.{Bool, cond, _&&_}
+use mathlib.Core.Bool.{cond, _&&_}
 use mathlib.Core.List.{List, [], _∷_}
 use lib.Dec.{eqb, leb, ltb}
 use lib.ListN.{length, take, drop, getD}

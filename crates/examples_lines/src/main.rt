@@ -36,7 +36,7 @@ fn forms() {
     check::expect(refused_under(b"a,7,2010") == 1);
 }
 
-// CR, NUL, a blank line and a byte 10 inside have no meaning of their own.
+// CR and NUL are part of their field; a blank line and a byte 10 inside are 1.
 fn more_forms() {
     check::expect(refused_under(b"") == 1);
     check::expect(refused_under(b"\n") == 1);

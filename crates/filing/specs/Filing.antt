@@ -1,5 +1,5 @@
--- "R,area,last: return from the open year to 31 December of last."
-use Prim.Native.Nat.{ℕ, _+_, _-_, min}
+-- "R,area,last: return from the open year to 31 December of last .."
+use Prim.Native.Nat.{ℕ, _+_, min}
 use mathlib.Core.Bool.{not, _||_}
 use mathlib.Core.List.{List, [], _∷_, _++_}
 use lib.Dec.{ltb}
@@ -38,7 +38,7 @@ abbrev pub dueOf : Change → ℕ → ℕ
 dueOf (Gain tonnes) balance = 0
 dueOf (Loss tonnes) balance = min tonnes balance
 
--- "closing stock is the sum over sub-areas at last + 1. Their difference in kg goes to the nearest tonne .. : the change."
+-- "A return's opening stock is the previous closing stock, or the area's opening stock for the first; closing stock is the sum over sub-areas at last + 1. Their difference in kg goes to the nearest tonne .. : the change."
 unfoldable pub changeOf : List ℕ → List ℕ → Area → ℕ → Change
 changeOf own default area last = changeBetween (area .stock) (areaStock own default area (last + 1))
 

@@ -1,5 +1,5 @@
 -- "Forest types: P1 to P9 (Pinus radiata with its region ..), D Douglas fir, S exotic softwoods, H exotic hardwoods, N indigenous."
--- "Bare land is type B." A letter or digit is its byte.
+-- "Bare land is type B ..". A letter or digit is its byte.
 use Prim.Native.Nat.{ℕ, _+_}
 use mathlib.Core.Bool.{cond}
 use mathlib.Core.List.{List, [], _∷_}

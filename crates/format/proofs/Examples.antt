@@ -1,7 +1,7 @@
 -- The bytes of two statements, computed: the empty holding's, and one of an area with a sub-area that was cleared and planted again.
 use mathlib.Core.Bool.{true}
 use mathlib.Core.Path.{_≡_, refl}
-use mathlib.Core.List.{List, [], _∷_}
+use mathlib.Core.List.{[], _∷_}
 use Rattle.text.specs.Digits.{digitsIn, digits}
 use Rattle.forest.specs.declared.Forest.the-variants.{DouglasFir}
 use Rattle.forest.specs.Letters.{lettersOf}

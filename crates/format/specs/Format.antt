@@ -1,4 +1,4 @@
--- "Carried statement. Lines: H,areas. Then per area, in order of opening: A,.. ; then its S,.. , in order of adding. .. Every line ends with byte 10."
+-- The carried statement: "Lines: H,areas. Then per area, in order of opening: A,.. ; then its S,.. , in order of adding. .. Every line ends with byte 10."
 -- A comma is byte 44; a letter is its byte.
 use Prim.Native.Nat.{ℕ}
 use mathlib.Core.Bool.{Bool, true, false}
@@ -75,7 +75,7 @@ amountsText area =
     ∷ numberText (area .surrendered) 44
     ∷ [])
 
--- "A,number,opening,open year,latest year,withdrawn,returns,stock,received,surrendered,subs; then its S"
+-- "A,number,opening,open year,latest year,withdrawn ..,returns,stock ..,received,surrendered,subs; then its S .."
 unfoldable pub areaText : Area → List ℕ
 areaText area = joined (startText 65 ∷ yearsText area ∷ amountsText area ∷ numberText (area .count) 10 ∷ texts subText (subsOf area) ∷ [])
 

@@ -30,7 +30,8 @@ noResidue = record { forest = Bare; age = 0; year = 0 }
 abbrev pub emptySub : Sub
 emptySub = record { number = 0; tenths = record { 0 = 0 }; forest = Bare; planted = 0; residue = noResidue }
 
--- an area of a number and an opening year, with no sub-areas: "its returns, stocks, sum and lowest at nought"
+-- an area of a number and an opening year, with no sub-areas, returns, stock or units: "Each area has an open year (at first its opening)
+-- and a latest year (greatest of its C and P entries, 0 if none)."
 abbrev pub openedArea : ℕ → ℕ → Area
 openedArea number opening = record {
   number = number;

@@ -8,7 +8,7 @@ use native.Mathlib.Nat.{mul-le-mul, mul-suc}
 use native.Mathlib.Omega.{arith}
 use lib.Dec.{leb}
 use lib.ListN.{length, length-take}
-use Rattle.laws.specs.Elements.{every, sumBy}
+use Rattle.laws.specs.Elements.{sumBy}
 use Rattle.laws.specs.Lists.{eachAtMost}
 use Rattle.laws.proofs.Lists.{ceiling-at}
 use Rattle.units.specs.declared.Kilograms.{Kilograms}
@@ -25,13 +25,12 @@ use Rattle.rates.proofs.Ceiling.{six-at-most}
 use Rattle.holding.specs.declared.Sub.{Sub}
 use Rattle.holding.specs.declared.Area.{Area}
 use Rattle.holding.specs.Holding.{mostSubs, subsOf}
-use Rattle.carried.specs.Carried.{stockForSub, subCarried}
+use Rattle.carried.specs.Carried.{stockForSub}
 use Rattle.filing.specs.Filing.{changeOf}
 use Rattle.stocks.specs.Stocks.{treesOn, residueOn, subStock, areaStock}
 use Rattle.keeping.specs.Tidy.{Each}
 use Rattle.keeping.proofs.Within.{land-within}
-use Rattle.keeping.proofs.Lists.{each-so, every-each}
-use Rattle.keeping.proofs.Subs.{sub-read}
+use Rattle.keeping.proofs.Lists.{each-so}
 use Rattle.keeping.proofs.Areas.{AreaKept}
 
 -- a product of three numbers, each with its bound
@@ -70,12 +69,6 @@ module _ (own : List ℕ) (table : isTable own ≡ true) where
   unfolding areaStock
   area-at-most area y p =
       sum-at-most (λ sub. subStock own schedule6 sub y .0) stockForSub (subsOf area) (each-so _ _ (λ sub. sub-at-most sub y) (subsOf area) p)
-
-  -- "stock is at most 6×10^10 for each sub", of sub-areas that a statement carries
-  pub carried-at-most : (area : Area) (y : ℕ) → every (subCarried area) (subsOf area) ≡ true
-      → areaStock own schedule6 area y .0 ≤ stockForSub * length (subsOf area)
-  carried-at-most area y e =
-      area-at-most area y (each-so _ _ (λ sub t. land-within (sub .tenths) (sub-read area sub t .land) .1) (subsOf area) (every-each (subCarried area) (subsOf area) e))
 
 -- the size of a change, in tonnes
 abbrev pub sizeOf : Change → ℕ

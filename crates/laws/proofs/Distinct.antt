@@ -1,6 +1,6 @@
 -- Lists whose elements bear distinct numbers: the first bears another than the rest, and one of a new number may be added at the end.
 use Prim.Native.Nat.{ℕ}
-use mathlib.Core.Bool.{Bool, true, false, not, _&&_, _||_}
+use mathlib.Core.Bool.{Bool, true, false, not}
 use mathlib.Core.Path.{_≡_, refl, sym}
 use mathlib.Core.List.{List, [], _∷_, _++_}
 use borrow.Author.Tests.{eqb-false, ne-eqb, not-true}

@@ -1,4 +1,4 @@
--- "A,area,opening: opens an area on 1 January of opening."
+-- "A,area,opening: opens an area on 1 January of opening .."
 use Prim.Native.Nat.{ℕ, _+_}
 use mathlib.Core.Bool.{not}
 use mathlib.Core.List.{List, [], _∷_}

@@ -2,7 +2,6 @@
 ghost use mathlib.Core.Path.{_≡_};
 ghost use Rattle.refusals.specs.Refusals.{smallest};
 ghost use Rattle.opening.specs.Opening.{openCases, opened};
-use holding::Area;
 use holding::Found;
 use holding::Holding;
 use outcomes::Outcome;

@@ -30,7 +30,7 @@ plantCases number sub forest year found area =
     ∷ (ltb year (area .«open_year») || ltb year (area .latest)) ⇒ YearBefore
     ∷ []))
 
--- the sub-area with trees of that type and year
+-- the sub-area with trees of the entry's type and year; the residue stays
 unfoldable pub plantedSub : Sub → Forest → ℕ → Sub
 plantedSub sub forest year = record { number = sub .number; tenths = sub .tenths; forest = forest; planted = year; residue = sub .residue }
 

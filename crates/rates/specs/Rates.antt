@@ -32,6 +32,7 @@ abbrev pub atPlace : List ℕ → Place → Column
 atPlace cells place = listed (place .first) (take (place .len) (drop (place .start) cells))
 
 -- "The column consulted is the participant's, or the default one where that length is 0 (002, 6.1)." The participant's are by "ages from 0".
+-- Over Schedule 6 the default one is the type's column: `six-column`.
 unfoldable pub consulted : List ℕ → List ℕ → Kind → Forest → Column
 consulted own default kind forest =
     cond (eqb (lengthOf own (ownNumber kind forest)) 0)
@@ -52,6 +53,6 @@ cellAt column age =
 unfoldable pub rateSix : List ℕ → List ℕ → Kind → Forest → ℕ → Rate
 rateSix own default kind forest age = record { 0 = cellAt (consulted own default kind forest) age }
 
--- the rate of pre-1990 forest land, by the cells of Schedule 4
+-- the rate of pre-1990 forest land, by the cells of Schedule 4, where it is the type's column that is read: `four-column`
 unfoldable pub rateFour : List ℕ → Forest → ℕ → Rate
 rateFour cells forest age = record { 0 = cellAt (atPlace cells (placeFour forest)) age }

@@ -1,5 +1,5 @@
 -- How a statement is read: field by field, each at the place after the one before. A number is read as far as its place in the holding has
--- room for it; its range is judged afterwards.
+-- room for it; its range is judged afterwards. What is accepted so is a carried holding's bytes and no other: `accepts-just-when` (trips).
 use Prim.Native.Nat.{ℕ, zero, suc, _+_}
 use mathlib.Core.List.{List}
 use lib.Dec.{eqb}

@@ -1,6 +1,6 @@
 -- What a step reports is short: an area that is kept has at most 192 returns, of at most 10^9 tonnes received each, and a return's change is at most
 -- 960,000,000 tonnes.
-use Prim.Native.Nat.{ℕ, _-_, _≤_}
+use Prim.Native.Nat.{ℕ, _≤_}
 use mathlib.Core.Bool.{true}
 use mathlib.Core.Path.{_≡_, refl}
 use mathlib.Core.List.{List}

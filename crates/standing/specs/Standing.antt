@@ -31,7 +31,8 @@ abbrev pub subsWith : List Sub → Found → Sub → List Sub
 subsWith subs (At i) sub = set subs i sub
 subsWith subs Nowhere sub = subs
 
--- the area with a sub-area put back at its place, after a clearing or planting in a year
+-- the area with a sub-area put back at its place, after a clearing or planting in a year; the year is the greatest, since 31 refuses
+-- one before the latest
 unfoldable pub withSub : Area → Found → Sub → ℕ → Area
 withSub area found sub year = record {
   number = area .number;

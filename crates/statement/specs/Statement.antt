@@ -15,7 +15,8 @@ use Rattle.reading.specs.declared.HoldingRead.{HoldingRead}
 use Rattle.reading.specs.Reading.{holdingAt}
 use Rattle.statement.specs.declared.Read.{Read}
 
--- the bytes were read to their end, and the holding is one that a statement carries
+-- the bytes were read to their end, and the holding is one that a statement carries; that "the bytes are the writer's" then is
+-- `accepts-that` (trips)
 unfoldable pub acceptable : List ℕ → HoldingRead → Verdict
 acceptable s read = smallest (not (ltb 0 (read .next) && eqb (read .next) (length s) && carried (read .holding)) ⇒ CarriedStatement ∷ [])
 

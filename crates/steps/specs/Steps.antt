@@ -1,19 +1,17 @@
 -- A step of a holding, and a list of steps. `own` is the participant's table, `default` the cells of Schedule 6 as they are lent.
 use Prim.Native.Nat.{ℕ}
-use mathlib.Core.Bool.{Bool, true, false, cond}
+use mathlib.Core.Bool.{cond}
 use mathlib.Core.List.{List, [], _∷_}
 use lib.Dec.{leb}
 use Rattle.refusals.specs.declared.Refusal.the-variants.{TableColumn, TableAfterArea}
-use Rattle.refusals.specs.declared.Verdict.{Verdict}
-use Rattle.refusals.specs.declared.Verdict.the-variants.{Clear as Accepted, Turned}
 use Rattle.refusals.specs.Refusals.{_⇒_, smallest}
 use Rattle.schedules.specs.Schedules.{schedule6}
 use Rattle.tables.specs.Participant.{isTable}
 use Rattle.entries.specs.declared.Entry.{Entry}
-use Rattle.entries.specs.declared.Entry.the-variants.{Open, Add, Clear, Plant, File, Withdraw, Column}
+use Rattle.entries.specs.declared.Entry.the-variants.{Open, Add, Plant, File, Withdraw, Column}
 use Rattle.holding.specs.declared.Holding.{Holding}
 use Rattle.holding.specs.declared.Found.the-variants.{Nowhere}
-use Rattle.holding.specs.Holding.{emptyArea, emptyHolding}
+use Rattle.holding.specs.Holding.{emptyArea}
 use Rattle.outcomes.specs.declared.Outcome.{Outcome}
 use Rattle.outcomes.specs.declared.Report.the-variants.{Nothing}
 use Rattle.outcomes.specs.Outcomes.{accepted, answered, turnedBack, placed}

@@ -2,11 +2,8 @@
 ghost use mathlib.Core.Path.{_≡_};
 ghost use Rattle.steps.specs.Steps.{columnTaken, applied};
 use entries::Entry;
-use forest::Forest;
 use holding::Found;
 use holding::Holding;
-use holding::Residue;
-use holding::Sub;
 use outcomes::Outcome;
 use outcomes::Report;
 use refusals::Refusal;
@@ -43,21 +40,7 @@ pub fn apply<'a>(own: &'a [u16], default: &'a [u16], holding: Holding, entry: En
             land,
             forest,
             planted,
-        } => {
-            let residue = Residue {
-                forest: Forest::Bare,
-                age: 0,
-                year: 0,
-            };
-            let added = Sub {
-                number: sub,
-                tenths: land,
-                forest,
-                planted,
-                residue,
-            };
-            adding::add(own, default, holding, area, added)
-        }
+        } => adding::add(own, default, holding, area, sub, land, forest, planted),
         Entry::Clear { area, sub, year } => clearing::clear(holding, area, sub, year),
         Entry::Plant {
             area,

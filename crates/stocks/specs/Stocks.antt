@@ -1,4 +1,4 @@
--- "Sub-area stock. Stock on 1 January of year y, from S entries and from clearings and plantings of earlier years."
+-- Sub-area stock: "Stock on 1 January of year y, from S entries and from clearings and plantings of earlier years .."
 -- `own` is the participant's table, `default` the cells of Schedule 6 as they are lent.
 use Prim.Native.Nat.{ℕ, _+_, _-_}
 use mathlib.Core.List.{List}

@@ -1,5 +1,5 @@
 -- Fields: joined fields are split again, what is split is joined again, and a scan for a field's end finds the first field and the rest.
-use Prim.Native.Nat.{ℕ, suc, _+_, _-_, _/_, _%_, _≤_, _<_}
+use Prim.Native.Nat.{ℕ, suc, _+_, _-_, _≤_, _<_}
 use mathlib.Core.Path.{_≡_, refl, sym, ap, _∙_}
 use mathlib.Core.Bool.{Bool, true, false, cond}
 use mathlib.Core.List.{List, [], _∷_, _++_}
@@ -9,9 +9,7 @@ use lib.Dec.{eqb}
 use lib.ListN.{length, getD, take, drop, length-drop, drop-of-length-le}
 use lib.Seq.{drop-cons, drop-drop}
 use borrow.Author.Tests.{eq-eqb, ne-eqb, eqb-true}
-use Rattle.text.specs.Digits.{digits}
 use Rattle.text.specs.Fields.{extend, split, width, joinAfter, join, Plain, AllPlain}
-use Rattle.text.proofs.Digits.{digits-ind, digits-small, digits-step}
 
 -- ---- the round trips
 
@@ -60,23 +58,6 @@ join-split (b ∷ s) = go (eqb b 44) refl (split s) (split-some s) (join-split s
     go true q [] h ih = absurd (omega arith)
     go true q (g ∷ gs) h ih = let e : 44 ≡ b = sym (eqb-true b 44 q) in cc
     go false q t h ih = join-extend b t ∙ ap (λ (l : List ℕ). b ∷ l) ih
-
--- ---- a number's digits hold no comma
-
-pub plain-append : (xs ys : List ℕ) → Plain xs → Plain ys → Plain (xs ++ ys)
-unfolding Plain
-plain-append [] ys a b = b
-plain-append (x ∷ xs) ys a b = (a .0, plain-append xs ys (a .1) b)
-
-plain-digit : (d : ℕ) → Plain ((48 + d) ∷ [])
-unfolding Plain
-plain-digit d = ((λ e. omega arith), tt)
-
-pub plain-digits : (n : ℕ) → Plain (digits n)
-plain-digits =
-    digits-ind (λ n. Plain (digits n))
-    (λ n h. rw (digits-small n h) (plain-digit n))
-    (λ n h ih. rw (digits-step n h) (plain-append (digits (n / 10)) ((48 + n % 10) ∷ []) ih (plain-digit (n % 10))))
 
 -- ---- a scan for a field's end: one byte at an index
 

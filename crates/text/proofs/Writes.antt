@@ -1,11 +1,11 @@
 -- Writes: two of them, the second where the first ends, are one. A write that fits leaves the bytes, and all else as it was.
-use Prim.Native.Nat.{ℕ, _+_, _-_, _≤_, min}
+use Prim.Native.Nat.{ℕ, _+_, _≤_, min}
 use mathlib.Core.Path.{_≡_, sym, ap, subst, _∙_}
 use mathlib.Core.List.{List, _++_, append-assoc}
 use mathlib.Core.Logic.{⊎-elim}
 use native.Mathlib.Omega.{arith}
 use lib.ListN.{length, take, drop, length-append}
-use lib.Seq.{sets, length-sets, sets-eq, take-at, drop-at, length-take-le}
+use lib.Seq.{sets, length-sets, sets-eq}
 use Rattle.laws.proofs.Order.{below-or-not}
 use Rattle.laws.proofs.Stores.{sets-append, sets-out}
 use Rattle.text.specs.Writing.{Wrote, greatest}
@@ -42,18 +42,3 @@ module _ {l : List ℕ} {at : ℕ} {bs o : List ℕ} {p : ℕ} (w : Wrote l at b
   wrote-is =
       w .stored ∙ sets-eq bs l at fits ∙ append-assoc (take at l) bs (drop (at + length bs) l)
       ∙ ap (λ (k : ℕ). take at l ++ (bs ++ drop k l)) (sym wrote-next)
-
-  pub wrote-before : take at o ≡ take at l
-  wrote-before = ap (take at) wrote-is ∙ take-at (take at l) (bs ++ drop p l) at (length-take-le at l (omega arith))
-
-  pub wrote-part : take (p - at) (drop at o) ≡ bs
-  wrote-part =
-      ap (λ (k : List ℕ). take (p - at) (drop at k)) wrote-is
-      ∙ ap (take (p - at)) (drop-at (take at l) (bs ++ drop p l) at (length-take-le at l (omega arith)))
-      ∙ take-at bs (drop p l) (p - at) (omega (arith, wrote-next))
-
-  pub wrote-after : drop p o ≡ drop p l
-  wrote-after =
-      ap (drop p) (wrote-is ∙ sym (append-assoc (take at l) bs (drop p l)))
-      ∙ drop-at (take at l ++ bs) (drop p l) p
-      (length-append (take at l) bs ∙ ap (λ (k : ℕ). k + length bs) (length-take-le at l (omega arith)) ∙ sym wrote-next)

@@ -1,7 +1,7 @@
 -- "W,area: withdraws the area."
-use Prim.Native.Nat.{ℕ, _+_, _-_}
+use Prim.Native.Nat.{ℕ, _+_}
 use mathlib.Core.Bool.{true, not}
-use mathlib.Core.List.{List, [], _∷_}
+use mathlib.Core.List.{List, _∷_}
 use Rattle.refusals.specs.declared.Refusal.the-variants.{AreaOrSubNumber}
 use Rattle.refusals.specs.Refusals.{Case, _⇒_, smallest}
 use Rattle.ranges.specs.Ranges.{isArea}

@@ -1,5 +1,4 @@
 -- `examples_steps::first_stock` meets its contract: sixteen areas have places.
-use Prim.Native.Nat.{ℕ}
 use mathlib.Core.Path.{_≡_, ap}
 use native.Mathlib.Omega.{arith}
 use lib.ListN.{length}

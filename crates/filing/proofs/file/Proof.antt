@@ -1,13 +1,10 @@
 -- `filing::file` meets its contract, by the verdict on the area that was looked up; a clear one bounds the year and the area's fields.
-use Prim.Native.Nat.{_≤_}
-use mathlib.Core.Bool.{true}
 use mathlib.Core.Path.{_≡_, sym, _∙_}
 use Rattle.refusals.specs.Refusals.{smallest}
 use Rattle.refusals.proofs.Laws.{NoneApplies, none-applies, none-parts}
 use Rattle.ranges.proofs.Laws.{year-at-most}
 use Rattle.holding.specs.Find.{findArea}
 use Rattle.standing.specs.Standing.{areaAt}
-use Rattle.carried.specs.Carried.{fieldsCarried}
 use Rattle.outcomes.specs.Outcomes.{areaCases}
 use Rattle.outcomes.proofs.Laws.{refused, taken, fields-kept}
 use Rattle.filing.specs.Filing.{fileCases, filed}

@@ -1,5 +1,5 @@
 -- `filing::settle` meets its contract: the bounds that a statement carries keep every sum and difference within its numbers.
-use Prim.Native.Nat.{_-_, _<_, _≤_}
+use Prim.Native.Nat.{_-_, _≤_}
 use native.Mathlib.Omega.{arith}
 use Rattle.carried.proofs.Bounds.{Bounds, bounds}
 use Rattle.filing.specs.Filing.{changeOf, filedArea, returnOf}

@@ -1,5 +1,5 @@
 -- `judging::residue` meets its contract, by whether there is a residue.
-use mathlib.Core.Path.{_≡_, sym, _∙_}
+use mathlib.Core.Path.{sym, _∙_}
 use Rattle.laws.specs.Tests.{allOf}
 use Rattle.carried.specs.Carried.{residueCarried}
 use borrow.Author.Needs.{needs}

@@ -1,6 +1,6 @@
 -- `opening::open` meets its contract, by the verdict; a clear one says that a place is free.
 use Prim.Native.Nat.{_<_}
-use mathlib.Core.Path.{_≡_, sym, _∙_}
+use mathlib.Core.Path.{sym, _∙_}
 use native.Mathlib.Omega.{arith}
 use borrow.Author.Tests.{leb-false}
 use Rattle.refusals.proofs.Laws.{NoneApplies, none-applies}

@@ -1,5 +1,4 @@
 -- `steps::take_column` meets its contract, by the verdict.
-use mathlib.Core.Path.{_≡_}
 use Rattle.refusals.specs.Refusals.{weighAll, smallest}
 use Rattle.outcomes.proofs.Laws.{refused, taken}
 use Rattle.steps.specs.Steps.{columnTaken}

@@ -1,4 +1,4 @@
--- `adding::add` meets its contract, by the verdict on the area that was looked up; a clear one says that a place is free and the stock is bounded.
+-- `adding::add_sub` meets its contract, by the verdict on the area that was looked up; a clear one says that a place is free and the stock is bounded.
 use Prim.Native.Nat.{_<_, _*_, _≤_}
 use mathlib.Core.Path.{_≡_, sym, _∙_}
 use native.Mathlib.Omega.{arith}
@@ -12,8 +12,8 @@ use Rattle.outcomes.specs.Outcomes.{areaCases}
 use Rattle.outcomes.proofs.Laws.{refused, taken, fields-kept}
 use Rattle.adding.specs.Adding.{addCases, added}
 use borrow.Author.Needs.{needs}
-use Rattle.adding.proofs.add.Statement.{statement}
-use Rattle.adding.proofs.add.Tie as tie
+use Rattle.adding.proofs.add_sub.Statement.{statement}
+use Rattle.adding.proofs.add_sub.Tie as tie
 
 judged : (c : tie.After-verdict) → let x = c .before .before .before .before .before .args in let found = findArea (x .holding) (x .number) in
     c .verdict .result ≡ smallest (addCases (x .number) (x .sub) found (areaAt (x .holding) found))
@@ -41,8 +41,8 @@ returns-2 c =
     let v = c .before .before .before in
     taken _ _ (judged v) _ _ (c .before .enum-told .given .1) (simp (c .added-area .ensures, v .before .area-at .ensures, v .before .before .find-area .ensures))
 
-pub add-spec : {M : Type 1} → statement M
-add-spec =
+pub add-sub-spec : {M : Type 1} → statement M
+add-sub-spec =
     tie.close
     (tie.spec
     (λ c κs. search needs)
