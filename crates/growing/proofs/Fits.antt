@@ -3,7 +3,7 @@ use Prim.Native.Nat.{ℕ, _≤_}
 use mathlib.Core.Path.{_≡_, ap, _∙_}
 use mathlib.Core.List.{List}
 use native.Mathlib.Omega.{arith}
-use lib.ListN.{length, take, drop, replicate}
+use lib.ListN.{length, take, drop, replicate, length-append, length-drop}
 use lib.Seq.{take-append-seam}
 use Rattle.refusals.specs.declared.Refusal.the-variants.{TableAfterArea}
 use Rattle.refusals.specs.declared.Verdict.{Verdict}
@@ -35,3 +35,10 @@ module _ (own : List ℕ) (areas : ℕ) (line : List ℕ) (column : ℕ) (clear 
     pub grown-front : take (grown .count) (grown .numbers) ≡ longerBy own line column
     unfolding grownBy
     grown-front = ap (λ (g : Grown). take (g .count) (g .numbers)) e ∙ clear-front (growable own areas line column) (longerBy own line column) clear
+
+    pub grown-long : length (grown .numbers) ≡ longestTable
+    unfolding grownBy bufferAfter
+    grown-long =
+        ap (λ (g : Grown). length (g .numbers)) e
+        ∙ ap (λ (v : Verdict). length (grownOf v (longerBy own line column) .numbers)) clear
+        ∙ simp (length-append, length-drop) (omega (arith, longer-fits))

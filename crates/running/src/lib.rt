@@ -26,6 +26,14 @@ fn put_lines(book: &[u8], out: &mut [u8]) -> usize
     while i < book.len() {
         let end = listing::end_of(book, i);
         let turn = taking::take(&table[0..count], &default, holding, &book[i..end]);
+        // An accepted T line grows the table a second time, which at most ten lines of a book do: so no line's turn has a table to carry.
+        let column = turn.column;
+        if let Found::At(k) = column {
+            let grown = growing::grow(&table[0..count], holding.count, &book[i..end], k);
+            count = grown.count;
+            let numbers = grown.numbers;
+            table = numbers;
+        }
         let outcome = turn.outcome;
         at = listing::put_line(out, at, accepted + refused + 1, outcome);
         let verdict = outcome.verdict;
@@ -39,11 +47,6 @@ fn put_lines(book: &[u8], out: &mut [u8]) -> usize
                 holding.areas[k] = area;
             }
             holding.count = outcome.count;
-        }
-        if turn.count != 0 {
-            count = turn.count;
-            let numbers = turn.numbers;
-            table = numbers;
         }
         i = end + 1;
     }

@@ -8,15 +8,15 @@ use native.Mathlib.Nat.{sub-zero}
 use lib.ListN.{length, take, drop}
 use Rattle.text.specs.Writing.{Wrote}
 use Rattle.text.proofs.Writes.{wrote-then, wrote-as, wrote-length}
+use Rattle.schedules.specs.Schedules.{schedule6}
 use Rattle.holding.specs.declared.Holding.{Holding}
 use Rattle.outcomes.specs.Outcomes.{placed}
 use Rattle.outcomes.proofs.Laws.{placed-here, placed-out, placed-nowhere}
 use Rattle.listing.specs.Lines.{linesOf}
-use Rattle.listing.specs.Listing.{Run, start, listFrom}
+use Rattle.listing.specs.Listing.{tableAfter, Run, start, listFrom}
 use Rattle.listing.proofs.Lines.{end-within}
 use Rattle.listing.proofs.Folding.{from-line, from-none}
-use Rattle.taking.specs.Turns.{tableOr}
-use Rattle.running.proofs.Following.{table-grown, table-stays, placed-long, turn-short, turn-prints, turn-runs}
+use Rattle.running.proofs.Following.{placed-long, turn-grows, turn-short, turn-long, turn-stays, turn-prints, turn-runs}
 use borrow.Author.Needs.{needs}
 use Rattle.running.proofs.put_lines.Statement.{statement}
 use Rattle.running.proofs.put_lines.Tie as tie
@@ -46,15 +46,15 @@ loop-holds c = (
       (c .empty-holding .ensures)) w,
 )
 
--- the loop's turn in which a line was taken, the line taken before a match, and the line's end before it was taken
+-- the loop's turn in which a line was taken, the line's end before that, and the line taken before the holding changes
 abbrev loopOf : tie.After-take Inv-loop μ-loop → tie.At-loop Inv-loop μ-loop
 loopOf c = c .before .before .before .before .before .before .before
 
-abbrev takenOf : tie.At-match-came Inv-loop μ-loop → tie.After-take Inv-loop μ-loop
-takenOf c = c .before .before .before .before .before .before .before
+abbrev endOf : tie.After-take Inv-loop μ-loop → tie.After-end-of Inv-loop μ-loop
+endOf c = c .before .before .before .before .before
 
-abbrev endOf : tie.At-match-came Inv-loop μ-loop → tie.After-end-of Inv-loop μ-loop
-endOf c = takenOf c .before .before .before .before .before
+abbrev takenOf : tie.At-match2-came Inv-loop μ-loop → tie.After-take Inv-loop μ-loop
+takenOf c = c .before .before .before .before .before .before .before .before
 
 -- what is carried in the loop
 abbrev runOf : tie.At-loop Inv-loop μ-loop → Run
@@ -67,76 +67,82 @@ ended c =
     let within = end-within (l .before .before .before .before .before .args .book .now) (l .loop .i) (omega (arith, c .before .loop-test .taken)) in
     omega (arith, c .end-of .ensures, within)
 
-longest : (c : tie.After-take Inv-loop μ-loop) → length (c .take .result .numbers) ≡ 1020
-longest c = search needs
+-- the line, and the table that it was taken with
+abbrev lineOf : tie.After-take Inv-loop μ-loop → List ℕ
+lineOf c =
+    let l = loopOf c in
+    take (endOf c .end-of .result - l .loop .i) (drop (l .loop .i) (l .before .before .before .before .before .args .book .now))
+
+owned : (c : tie.After-take Inv-loop μ-loop) → take (loopOf c .loop .count - 0) (loopOf c .loop .table) ≡ runOf (loopOf c) .own
+owned c = ap (λ (n : ℕ). take n (loopOf c .loop .table)) (sub-zero (loopOf c .loop .count))
+
+six : (c : tie.After-take Inv-loop μ-loop) → loopOf c .before .before .schedule-six .result ≡ schedule6
+six c = loopOf c .before .before .schedule-six .ensures
+
+-- the table after a line
+tabled : (c : tie.At-match-came Inv-loop μ-loop)
+    → (take (c .match .count) (c .match .table) ≡ tableAfter (runOf (loopOf (c .before)) .own) (loopOf (c .before) .loop .holding) (lineOf (c .before)))
+    × (length (c .match .table) ≡ 1020) × (c .match .count ≤ 1020)
+tabled c =
+    let t = c .before in
+    let l = loopOf t in
+    ⊎-elim
+    (λ a.
+    let grown = a .6 .result in (
+      ap (λ (n : ℕ). take n (c .match .table)) (a .9)
+          ∙ ap (take (grown .count)) (a .8)
+          ∙ turn-grows (runOf l) (lineOf t) _ _ (t .take .result) (t .take .ensures) (owned t) (six t) _ (a .1 .given .1) grown (a .6 .ensures),
+      ap (λ (cells : List ℕ). length cells) (a .8) ∙ turn-long (runOf l) (lineOf t) _ _ (t .take .result) (t .take .ensures) (owned t) (six t) _ (a .1 .given .1) grown (a .6 .ensures),
+      omega (
+        arith,
+        a .9,
+        turn-short (runOf l) (lineOf t) _ _ (t .take .result) (t .take .ensures) (owned t) (six t) _ (a .1 .given .1) grown (a .6 .ensures),
+      ),
+    ))
+    (λ a. (
+      ap (λ (n : ℕ). take n (c .match .table)) (a .3)
+          ∙ ap (take (l .loop .count)) (a .2)
+          ∙ turn-stays (runOf l) (lineOf t) _ _ (t .take .result) (t .take .ensures) (owned t) (six t) (a .1 .given .1),
+      ap (λ (cells : List ℕ). length cells) (a .2) ∙ l .loop .inv .3,
+      omega (arith, a .3, l .loop .inv .2),
+    ))
+    (c .match .came)
 
 -- the holding after a line
-stands : (c : tie.At-match-came Inv-loop μ-loop) → c .match .holding ≡ placed (loopOf (takenOf c) .loop .holding) (takenOf c .take .result .outcome)
+stands : (c : tie.At-match2-came Inv-loop μ-loop) → c .match2 .holding ≡ placed (loopOf (takenOf c) .loop .holding) (takenOf c .take .result .outcome)
 stands c =
     ⊎-elim
     (λ a. a .5 ∙ placed-here _ _ _ (a .1 .given .1))
     (⊎-elim
     (λ a. a .5 ∙ placed-out _ _ _ (a .1 .given .1) (omega (arith, a .4 .left, loopOf (takenOf c) .loop .inv .4)))
     (λ a. a .2 ∙ placed-nowhere _ _ (a .1 .given .1)))
-    (c .match .came)
-
--- the table after a line
-tabled : (c : tie.Joined2 Inv-loop μ-loop)
-    → (take (c .if2 .count) (c .if2 .table)
-    ≡ tableOr
-    (runOf (loopOf (takenOf (c .before .before))) .own)
-    (takenOf (c .before .before) .take .result .count)
-    (takenOf (c .before .before) .take .result .numbers))
-    × (length (c .if2 .table) ≡ 1020)
-tabled c =
-    let t = takenOf (c .before .before) in
-    let turn = t .take .result in
-    let l = loopOf t in
-    let own : List ℕ = runOf l .own in
-    ⊎-elim
-    (λ a. (
-      ap (λ (k : ℕ). take k (c .if2 .table)) (a .3)
-          ∙ ap (λ (cells : List ℕ). take (turn .count) cells) (a .2)
-          ∙ table-grown own (turn .count) (turn .numbers) (a .0 .taken),
-      ap (λ (cells : List ℕ). length cells) (a .2) ∙ longest t,
-    ))
-    (λ a. (
-      ap (λ (k : ℕ). take k (c .if2 .table)) (a .2)
-          ∙ ap (λ (cells : List ℕ). take (l .loop .count) cells) (a .1)
-          ∙ table-stays own (turn .count) (turn .numbers) (a .0 .left),
-      ap (λ (cells : List ℕ). length cells) (a .1) ∙ l .loop .inv .3,
-    ))
-    (c .if2 .came)
+    (c .match2 .came)
 
 add-i : tie.Need-add-i Inv-loop μ-loop
-add-i c = let e = endOf (c .before .before) in omega (arith, ended e, e .before .before .before .before .before .before .before .pre)
+add-i c = let e = endOf (takenOf c) in omega (arith, ended e, e .before .before .before .before .before .before .before .pre)
 
 loop-less : tie.Need-loop-less Inv-loop μ-loop
-loop-less c = let e = endOf (c .before .before) in omega (arith, ended e, e .before .loop-test .taken)
+loop-less c = let e = endOf (takenOf c) in omega (arith, ended e, e .before .loop-test .taken)
 
 loop-again : tie.Need-loop-again Inv-loop μ-loop
 loop-again c =
-    let m = c .before .before in
-    let counts = m .before .counted in
-    let put = m .before .before .before .before .put-line .ensures .wrote in
-    let t = takenOf m in
-    let e = endOf m in
+    let counts = c .before .counted in
+    let put = c .before .before .before .before .put-line .ensures .wrote in
+    let m = c .before .before .before .before .before .before .before in
+    let t = takenOf c in
+    let e = endOf t in
     let l = loopOf t in
     let book = l .before .before .before .before .before .args .book .now in
-    let line = take (e .end-of .result - l .loop .i) (drop (l .loop .i) book) in
-    let own = ap (λ (n : ℕ). take n (l .loop .table)) (sub-zero (l .loop .count)) in
-    let six = l .before .before .schedule-six .ensures in
-    let table = tabled c in
+    let table = tabled m in
     let runs =
-    turn-runs (runOf l) line _ _ (t .take .result) (t .take .ensures) own six _ _ _ _ (counts .result)
-    (table .0) (stands m) (counts .ensures .0) refl refl in
-    let short = turn-short (runOf l) line _ _ (t .take .result) (t .take .ensures) own six in
-    let prints = turn-prints (runOf l) line _ _ (t .take .result) (t .take .ensures) own six in (
+    turn-runs (runOf l) (lineOf t) _ _ (t .take .result) (t .take .ensures) (owned t) (six t) _ _ _ _ (counts .result)
+    (table .0) (stands c) (counts .ensures .0) refl refl in
+    let prints = turn-prints (runOf l) (lineOf t) _ _ (t .take .result) (t .take .ensures) (owned t) (six t) in (
       omega (arith, ended e),
       omega (arith, ended e, counts .ensures .1, l .loop .inv .1),
-      ⊎-elim (λ a. omega (arith, a .3, short)) (λ a. omega (arith, a .2, l .loop .inv .2)) (c .if2 .came),
+      table .2,
       table .1,
-      ap (λ (h : Holding). length (h .areas)) (stands m) ∙ placed-long _ _ ∙ l .loop .inv .4,
+      ap (λ (h : Holding). length (h .areas)) (stands c) ∙ placed-long _ _ ∙ l .loop .inv .4,
       wrote-length put ∙ l .loop .inv .5,
       λ o p w.
           l .loop .inv .6 o p
@@ -172,6 +178,15 @@ put-lines-spec =
     (λ c. omega (arith, ended (c .before .before .before)))
     (λ c. omega (arith, ended (c .before .before .before)))
     (λ c κs. search needs)
+    (λ c. search needs)
+    (λ c. omega arith)
+    (λ c. omega arith)
+    (λ c. omega arith)
+    (λ c. omega (arith, ended (endOf (c .before .before .before .before .before))))
+    (λ c. omega (arith, ended (endOf (c .before .before .before .before .before))))
+    (λ c. omega (arith, ended (endOf (c .before .before .before .before .before))))
+    (λ c κs. search needs)
+    (λ c. search needs)
     (λ c. omega arith)
     (λ c. omega arith)
     (λ c κs. search needs)
