@@ -1,25 +1,22 @@
 -- A turn of the loop is a turn of the fold: the code's table, holding and counts after a line are those of the run that follows.
-use Prim.Native.Nat.{ℕ, _+_, _-_, _≤_}
-use mathlib.Core.Path.{_≡_, refl, sym, ap, _∙_}
+use Prim.Native.Nat.{ℕ, _+_, _-_}
+use mathlib.Core.Path.{_≡_, refl, ap, _∙_}
 use mathlib.Core.List.{List}
 use native.Mathlib.Omega.{arith}
-use lib.ListN.{length, take, length-set}
+use lib.ListN.{length, length-set}
 use Rattle.refusals.specs.declared.Verdict.{Verdict}
 use Rattle.refusals.specs.declared.Verdict.the-variants.{Clear as Accepted, Turned as Refused}
 use Rattle.schedules.specs.Schedules.{schedule6}
-use Rattle.tables.specs.Participant.{longestTable}
 use Rattle.holding.specs.declared.Holding.{Holding}
 use Rattle.holding.specs.declared.Found.{Found}
 use Rattle.holding.specs.declared.Found.the-variants.{At, Nowhere}
 use Rattle.outcomes.specs.declared.Outcome.{Outcome}
 use Rattle.outcomes.specs.Outcomes.{placedAt, placed}
-use Rattle.growing.specs.declared.Grown.{Grown}
-use Rattle.growing.specs.Growing.{grownBy}
-use Rattle.growing.proofs.Fits.{longer-fits, grown-count, grown-front, grown-long}
 use Rattle.listing.specs.Listing.{lineTaken, ifAccepted, tableAfter, Run, next, printedFor, printed}
 use Rattle.taking.specs.declared.Turn.{Turn}
 use Rattle.taking.specs.Turns.{turnOf}
-use Rattle.running.proofs.Turns.{Grows, turn-outcome, turn-table}
+use Rattle.running.specs.Tables.{tableBy}
+use Rattle.running.proofs.Turns.{turn-outcome, turn-table}
 
 -- a step leaves as many places for areas as there were
 pub placed-long : (holding : Holding) (outcome : Outcome) → length (placed holding outcome .areas) ≡ length (holding .areas)
@@ -42,41 +39,22 @@ module _ (run : Run) (line own default : List ℕ) (turn : Turn) (t : turn ≡ t
   outcome-is : turn .outcome ≡ lineTaken (run .own) (run .holding) line
   outcome-is = ap (λ (x : Turn). x .outcome) turn-is ∙ turn-outcome (run .own) (run .holding) line
 
-  -- the table after the line
-  abbrev after : List ℕ
-  after = tableAfter (run .own) (run .holding) line
-
-  grows : (found : Found) → turn .column ≡ found → Grows (run .own) (run .holding) line after found
-  grows found c = rw (sym c, turn-is) (turn-table (run .own) (run .holding) line)
-
-  module _ (column : ℕ) (c : turn .column ≡ At column) (grown : Grown) (g : grown ≡ grownBy own (run .holding .count) line column) where
-    grown-is : grown ≡ grownBy (run .own) (run .holding .count) line column
-    grown-is = g ∙ ap (λ (l : List ℕ). grownBy l (run .holding .count) line column) o
-
-    pub turn-grows : take (grown .count) (grown .numbers) ≡ after
-    turn-grows = let t = grows (At column) c in grown-front _ _ _ _ (t .0) grown grown-is ∙ sym (t .1)
-
-    pub turn-short : grown .count ≤ longestTable
-    turn-short = let t = grows (At column) c in omega (arith, grown-count _ _ _ _ (t .0) grown grown-is, longer-fits _ _ _ _ (t .0))
-
-    pub turn-long : length (grown .numbers) ≡ longestTable
-    turn-long = grown-long _ _ _ _ (grows (At column) c .0) grown grown-is
-
-  pub turn-stays : turn .column ≡ Nowhere → run .own ≡ after
-  turn-stays c = sym (grows Nowhere c)
-
   pub turn-prints : printedFor (run .accepted + run .refused + 1) (turn .outcome .verdict) (turn .outcome) ≡ printed run line
   unfolding printed
   turn-prints = ap (λ (x : Outcome). printedFor (run .accepted + run .refused + 1) (x .verdict) x) outcome-is
 
-  pub turn-runs : (table : List ℕ) (holding : Holding) (accepted refused taken : ℕ) → table ≡ after
+  pub turn-runs : (table : List ℕ) (holding : Holding) (accepted refused taken : ℕ) → table ≡ tableBy (run .own) (run .holding .count) line (turn .column)
       → holding ≡ placed (run .holding) (turn .outcome) → taken ≡ ifAccepted (turn .outcome .verdict) 1 0
       → accepted ≡ run .accepted + taken → refused ≡ run .refused + (1 - taken)
       → record { own = table; holding = holding; accepted = accepted; refused = refused } ≡ next run line
   unfolding next
-  turn-runs table holding accepted refused taken grown h k a r =
+  turn-runs table holding accepted refused taken b h k a r =
       let v = turn .outcome .verdict in
       let w : v ≡ lineTaken (run .own) (run .holding) line .verdict = ap (λ (x : Outcome). x .verdict) outcome-is in
+      let grown : table ≡ tableAfter (run .own) (run .holding) line =
+      b
+      ∙ ap (λ (x : Turn). tableBy (run .own) (run .holding .count) line (x .column)) turn-is
+      ∙ turn-table (run .own) (run .holding) line in
       let stands : holding ≡ placed (run .holding) (lineTaken (run .own) (run .holding) line) = h ∙ ap (placed (run .holding)) outcome-is in
       let counts = one-or-none v (run .accepted) (run .refused) in
       let more : accepted ≡ ifAccepted (lineTaken (run .own) (run .holding) line .verdict) (run .accepted + 1) (run .accepted) =

@@ -1,10 +1,14 @@
 -- A turn's outcome and table are those of the fold: the table grows by the turn's column, and where there is none it stays.
-use Prim.Native.Nat.{ℕ}
-use mathlib.Core.Path.{_≡_, refl}
+use Prim.Native.Nat.{ℕ, _-_}
+use mathlib.Core.Path.{_≡_, refl, sym, ap, _∙_}
 use mathlib.Core.List.{List}
+use native.Mathlib.Omega.{arith}
+use native.Mathlib.Nat.{sub-zero}
+use lib.ListN.{length, take}
 use Rattle.refusals.specs.declared.Verdict.{Verdict}
 use Rattle.refusals.specs.declared.Verdict.the-variants.{Clear as Accepted, Turned as Refused}
 use Rattle.schedules.specs.Schedules.{schedule6}
+use Rattle.tables.specs.Participant.{longestTable}
 use Rattle.entries.specs.declared.Entry.{Entry}
 use Rattle.entries.specs.declared.Entry.the-variants.{Open, Add, Clear, Plant, File, Withdraw, Column}
 use Rattle.entries.specs.declared.Parsed.{Parsed}
@@ -17,23 +21,33 @@ use Rattle.holding.specs.Holding.{emptyArea}
 use Rattle.outcomes.specs.declared.Outcome.{Outcome}
 use Rattle.outcomes.specs.declared.Report.the-variants.{Nothing}
 use Rattle.outcomes.specs.Outcomes.{accepted, answered}
-use Rattle.growing.specs.Growing.{longerBy, growable}
+use Rattle.growing.specs.declared.Grown.{Grown}
+use Rattle.growing.specs.Growing.{longerBy, growable, grownBy}
+use Rattle.growing.proofs.Fits.{grown-front, count-fits}
 use Rattle.listing.specs.Listing.{entryTaken, parsedTaken, lineTaken, entryTable, parsedTable, ifAccepted, tableAfter}
 use Rattle.taking.specs.declared.Turn.{Turn}
 use Rattle.taking.specs.Turns.{stayed, columnTurn, foundTurn, entryTurn, parsedTurn, turnOf}
+use Rattle.running.specs.Tables.{tableIn, tableBy, Fronts}
+
+-- the table that a column leaves
+pub table-grown : (table line : List ℕ) (count areas : ℕ) (found : Found) (column : ℕ) → found ≡ At column → (grown : Grown)
+    → grown ≡ grownBy (take (count - 0) table) areas line column → length (grown .numbers) ≡ longestTable
+    → Fronts (grown .numbers) (grown .count) (tableBy (take count table) areas line found)
+table-grown table line count areas found column f grown g w =
+    let same : grown ≡ grownBy (take count table) areas line column = g ∙ ap (λ (n : ℕ). grownBy (take n table) areas line column) (sub-zero count) in
+    record {
+      front = ap tableIn same ∙ sym (ap (tableBy (take count table) areas line) f);
+      fits = omega (arith, ap (λ (x : Grown). x .count) same, count-fits (take count table) areas line column);
+      whole = w;
+    }
 
 module _ (own : List ℕ) (holding : Holding) (line : List ℕ) where
-  -- the table after a line, by the turn's column
-  abbrev pub Grows : List ℕ → Found → Type 0
-  Grows after (At column) = (growable own (holding .count) line column ≡ Accepted) × (after ≡ longerBy own line column)
-  Grows after Nowhere = after ≡ own
-
   -- what a turn is to be for an outcome, and the table if that is accepted
   record Follows (new : List ℕ) (outcome : Outcome) (turn : Turn) : Type 0 where
     outcomes : turn .outcome ≡ outcome
-    tables : Grows (ifAccepted (outcome .verdict) new own) (turn .column)
+    tables : tableBy own (holding .count) line (turn .column) ≡ ifAccepted (outcome .verdict) new own
 
-  same : (v : Verdict) → ifAccepted v own own ≡ own
+  same : (v : Verdict) → own ≡ ifAccepted v own own
   same Accepted = refl
   same (Refused r) = refl
 
@@ -44,7 +58,7 @@ module _ (own : List ℕ) (holding : Holding) (line : List ℕ) where
   column-follows : (column : ℕ) (v : Verdict) → growable own (holding .count) line column ≡ v
       → Follows (longerBy own line column) (answered v (accepted Nothing Nowhere (holding .count) emptyArea)) (columnTurn holding v column)
   unfolding columnTurn answered
-  column-follows column Accepted e = record { outcomes = refl; tables = (e, refl) }
+  column-follows column Accepted e = record { outcomes = refl; tables = grown-front own (holding .count) line column e _ refl }
   column-follows column (Refused r) e = record { outcomes = refl; tables = refl }
 
   entry-follows : (entry : Entry) → Follows (entryTable own line entry) (entryTaken own holding line entry) (entryTurn own schedule6 holding line entry)
@@ -66,6 +80,6 @@ module _ (own : List ℕ) (holding : Holding) (line : List ℕ) where
   unfolding turnOf lineTaken
   turn-outcome = parsed-follows (entryOf line) .outcomes
 
-  pub turn-table : Grows (tableAfter own holding line) (turnOf own schedule6 holding line .column)
+  pub turn-table : tableBy own (holding .count) line (turnOf own schedule6 holding line .column) ≡ tableAfter own holding line
   unfolding turnOf lineTaken tableAfter
   turn-table = parsed-follows (entryOf line) .tables

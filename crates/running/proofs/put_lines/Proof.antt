@@ -8,15 +8,14 @@ use native.Mathlib.Nat.{sub-zero}
 use lib.ListN.{length, take, drop}
 use Rattle.text.specs.Writing.{Wrote}
 use Rattle.text.proofs.Writes.{wrote-then, wrote-as, wrote-length}
-use Rattle.schedules.specs.Schedules.{schedule6}
 use Rattle.holding.specs.declared.Holding.{Holding}
 use Rattle.outcomes.specs.Outcomes.{placed}
 use Rattle.outcomes.proofs.Laws.{placed-here, placed-out, placed-nowhere}
 use Rattle.listing.specs.Lines.{linesOf}
-use Rattle.listing.specs.Listing.{tableAfter, Run, start, listFrom}
+use Rattle.listing.specs.Listing.{Run, start, listFrom}
 use Rattle.listing.proofs.Lines.{end-within}
 use Rattle.listing.proofs.Folding.{from-line, from-none}
-use Rattle.running.proofs.Following.{placed-long, turn-grows, turn-short, turn-long, turn-stays, turn-prints, turn-runs}
+use Rattle.running.proofs.Following.{placed-long, turn-prints, turn-runs}
 use borrow.Author.Needs.{needs}
 use Rattle.running.proofs.put_lines.Statement.{statement}
 use Rattle.running.proofs.put_lines.Tie as tie
@@ -46,15 +45,15 @@ loop-holds c = (
       (c .empty-holding .ensures)) w,
 )
 
--- the loop's turn in which a line was taken, the line's end before that, and the line taken before the holding changes
-abbrev loopOf : tie.After-take Inv-loop μ-loop → tie.At-loop Inv-loop μ-loop
-loopOf c = c .before .before .before .before .before .before .before
+-- the line taken before the holding changes, the line's end before it was taken, and the loop's turn
+abbrev takenOf : tie.At-match-came Inv-loop μ-loop → tie.After-take Inv-loop μ-loop
+takenOf c = c .before .before .before .before .before .before .before .before .before .before
 
-abbrev endOf : tie.After-take Inv-loop μ-loop → tie.After-end-of Inv-loop μ-loop
-endOf c = c .before .before .before .before .before
+abbrev endOf : tie.At-match-came Inv-loop μ-loop → tie.After-end-of Inv-loop μ-loop
+endOf c = takenOf c .before .before .before .before .before
 
-abbrev takenOf : tie.At-match2-came Inv-loop μ-loop → tie.After-take Inv-loop μ-loop
-takenOf c = c .before .before .before .before .before .before .before .before
+abbrev loopOf : tie.At-match-came Inv-loop μ-loop → tie.At-loop Inv-loop μ-loop
+loopOf c = endOf c .before .before
 
 -- what is carried in the loop
 abbrev runOf : tie.At-loop Inv-loop μ-loop → Run
@@ -67,81 +66,42 @@ ended c =
     let within = end-within (l .before .before .before .before .before .args .book .now) (l .loop .i) (omega (arith, c .before .loop-test .taken)) in
     omega (arith, c .end-of .ensures, within)
 
--- the line, and the table that it was taken with
-abbrev lineOf : tie.After-take Inv-loop μ-loop → List ℕ
-lineOf c =
-    let l = loopOf c in
-    take (endOf c .end-of .result - l .loop .i) (drop (l .loop .i) (l .before .before .before .before .before .args .book .now))
-
-owned : (c : tie.After-take Inv-loop μ-loop) → take (loopOf c .loop .count - 0) (loopOf c .loop .table) ≡ runOf (loopOf c) .own
-owned c = ap (λ (n : ℕ). take n (loopOf c .loop .table)) (sub-zero (loopOf c .loop .count))
-
-six : (c : tie.After-take Inv-loop μ-loop) → loopOf c .before .before .schedule-six .result ≡ schedule6
-six c = loopOf c .before .before .schedule-six .ensures
-
--- the table after a line
-tabled : (c : tie.At-match-came Inv-loop μ-loop)
-    → (take (c .match .count) (c .match .table) ≡ tableAfter (runOf (loopOf (c .before)) .own) (loopOf (c .before) .loop .holding) (lineOf (c .before)))
-    × (length (c .match .table) ≡ 1020) × (c .match .count ≤ 1020)
-tabled c =
-    let t = c .before in
-    let l = loopOf t in
-    ⊎-elim
-    (λ a.
-    let grown = a .6 .result in (
-      ap (λ (n : ℕ). take n (c .match .table)) (a .9)
-          ∙ ap (take (grown .count)) (a .8)
-          ∙ turn-grows (runOf l) (lineOf t) _ _ (t .take .result) (t .take .ensures) (owned t) (six t) _ (a .1 .given .1) grown (a .6 .ensures),
-      ap (λ (cells : List ℕ). length cells) (a .8) ∙ turn-long (runOf l) (lineOf t) _ _ (t .take .result) (t .take .ensures) (owned t) (six t) _ (a .1 .given .1) grown (a .6 .ensures),
-      omega (
-        arith,
-        a .9,
-        turn-short (runOf l) (lineOf t) _ _ (t .take .result) (t .take .ensures) (owned t) (six t) _ (a .1 .given .1) grown (a .6 .ensures),
-      ),
-    ))
-    (λ a. (
-      ap (λ (n : ℕ). take n (c .match .table)) (a .3)
-          ∙ ap (take (l .loop .count)) (a .2)
-          ∙ turn-stays (runOf l) (lineOf t) _ _ (t .take .result) (t .take .ensures) (owned t) (six t) (a .1 .given .1),
-      ap (λ (cells : List ℕ). length cells) (a .2) ∙ l .loop .inv .3,
-      omega (arith, a .3, l .loop .inv .2),
-    ))
-    (c .match .came)
-
 -- the holding after a line
-stands : (c : tie.At-match2-came Inv-loop μ-loop) → c .match2 .holding ≡ placed (loopOf (takenOf c) .loop .holding) (takenOf c .take .result .outcome)
+stands : (c : tie.At-match-came Inv-loop μ-loop) → c .match .holding ≡ placed (loopOf c .loop .holding) (takenOf c .take .result .outcome)
 stands c =
     ⊎-elim
     (λ a. a .5 ∙ placed-here _ _ _ (a .1 .given .1))
     (⊎-elim
-    (λ a. a .5 ∙ placed-out _ _ _ (a .1 .given .1) (omega (arith, a .4 .left, loopOf (takenOf c) .loop .inv .4)))
+    (λ a. a .5 ∙ placed-out _ _ _ (a .1 .given .1) (omega (arith, a .4 .left, loopOf c .loop .inv .4)))
     (λ a. a .2 ∙ placed-nowhere _ _ (a .1 .given .1)))
-    (c .match2 .came)
+    (c .match .came)
 
 add-i : tie.Need-add-i Inv-loop μ-loop
-add-i c = let e = endOf (takenOf c) in omega (arith, ended e, e .before .before .before .before .before .before .before .pre)
+add-i c = let e = endOf c in omega (arith, ended e, e .before .before .before .before .before .before .before .pre)
 
 loop-less : tie.Need-loop-less Inv-loop μ-loop
-loop-less c = let e = endOf (takenOf c) in omega (arith, ended e, e .before .loop-test .taken)
+loop-less c = let e = endOf c in omega (arith, ended e, e .before .loop-test .taken)
 
 loop-again : tie.Need-loop-again Inv-loop μ-loop
 loop-again c =
     let counts = c .before .counted in
     let put = c .before .before .before .before .put-line .ensures .wrote in
-    let m = c .before .before .before .before .before .before .before in
+    let grown = c .before .before .before .before .before .before .before .extend .ensures in
     let t = takenOf c in
-    let e = endOf t in
-    let l = loopOf t in
+    let e = endOf c in
+    let l = loopOf c in
     let book = l .before .before .before .before .before .args .book .now in
-    let table = tabled m in
+    let line = take (e .end-of .result - l .loop .i) (drop (l .loop .i) book) in
+    let own = ap (λ (n : ℕ). take n (l .loop .table)) (sub-zero (l .loop .count)) in
+    let six = l .before .before .schedule-six .ensures in
     let runs =
-    turn-runs (runOf l) (lineOf t) _ _ (t .take .result) (t .take .ensures) (owned t) (six t) _ _ _ _ (counts .result)
-    (table .0) (stands c) (counts .ensures .0) refl refl in
-    let prints = turn-prints (runOf l) (lineOf t) _ _ (t .take .result) (t .take .ensures) (owned t) (six t) in (
+    turn-runs (runOf l) line _ _ (t .take .result) (t .take .ensures) own six _ _ _ _ (counts .result)
+    (grown .front) (stands c) (counts .ensures .0) refl refl in
+    let prints = turn-prints (runOf l) line _ _ (t .take .result) (t .take .ensures) own six in (
       omega (arith, ended e),
       omega (arith, ended e, counts .ensures .1, l .loop .inv .1),
-      table .2,
-      table .1,
+      grown .fits,
+      grown .whole,
       ap (λ (h : Holding). length (h .areas)) (stands c) ∙ placed-long _ _ ∙ l .loop .inv .4,
       wrote-length put ∙ l .loop .inv .5,
       λ o p w.
@@ -178,15 +138,10 @@ put-lines-spec =
     (λ c. omega (arith, ended (c .before .before .before)))
     (λ c. omega (arith, ended (c .before .before .before)))
     (λ c κs. search needs)
-    (λ c. search needs)
-    (λ c. omega arith)
-    (λ c. omega arith)
-    (λ c. omega arith)
-    (λ c. omega (arith, ended (endOf (c .before .before .before .before .before))))
-    (λ c. omega (arith, ended (endOf (c .before .before .before .before .before))))
-    (λ c. omega (arith, ended (endOf (c .before .before .before .before .before))))
+    (λ c. omega (arith, ended (c .before .before .before .before .before .before)))
+    (λ c. omega (arith, ended (c .before .before .before .before .before .before)))
+    (λ c. omega (arith, ended (c .before .before .before .before .before .before)))
     (λ c κs. search needs)
-    (λ c. search needs)
     (λ c. omega arith)
     (λ c. omega arith)
     (λ c κs. search needs)
