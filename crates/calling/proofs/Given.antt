@@ -30,13 +30,14 @@ use Rattle.outcomes.specs.Outcomes.{placed}
 use Rattle.steps.specs.Steps.{applied}
 use Rattle.growing.specs.declared.Grown.{Grown}
 use Rattle.growing.specs.Growing.{longerBy, growable, grownBy}
+use Rattle.growing.specs.Sorts.{columnOf}
 use Rattle.growing.proofs.Fits.{grown-count, grown-front}
 use Rattle.statement.specs.declared.Read.{Read}
 use Rattle.statement.specs.Statement.{readOf}
 use Rattle.listing.specs.Listing.{entryTaken}
 use Rattle.writing.specs.Writable.{writable}
 use Rattle.outputs.specs.Outputs.{tableBytes, reportedBytes}
-use Rattle.calling.specs.Call.{tableVerdict, smaller, columnOf, foundBytes, entryBytes, withRoom, callVerdict, callBytes, callWeighed, callOutput}
+use Rattle.calling.specs.Call.{tableVerdict, smaller, foundBytes, entryBytes, withRoom, callVerdict, callBytes, callWeighed, callOutput}
 use Rattle.calling.specs.Parts.{Gives, entryVerdict, columnVerdict, stepOutcome, stepVerdict, stepBytes}
 use Rattle.calling.proofs.Sorts.{columnOutcome, column-taken, step-taken}
 use Rattle.calling.proofs.Smaller.{smaller-clear}

@@ -16,8 +16,8 @@ use Rattle.outcomes.specs.declared.Report.the-variants.{Nothing}
 use Rattle.outcomes.specs.Outcomes.{accepted, answered}
 use Rattle.steps.specs.Steps.{applied}
 use Rattle.growing.specs.Growing.{growable, longerBy}
+use Rattle.growing.specs.Sorts.{columnOf}
 use Rattle.listing.specs.Listing.{entryTaken, entryTable}
-use Rattle.calling.specs.Call.{columnOf}
 
 -- what an accepted T line comes to: the holding stays
 abbrev pub columnOutcome : Holding → Outcome

@@ -13,7 +13,6 @@ use Rattle.answers.specs.Answers.{bufferAfter}
 use Rattle.tables.specs.Participant.{isTable, longestTable}
 use Rattle.decoding.specs.Bytes.{numbersOf, decodable}
 use Rattle.entries.specs.declared.Entry.{Entry}
-use Rattle.entries.specs.declared.Entry.the-variants.{Open, Add, Clear, Plant, File, Withdraw, Column}
 use Rattle.entries.specs.declared.Parsed.{Parsed}
 use Rattle.entries.specs.declared.Parsed.the-variants.{Taken, Turned}
 use Rattle.lines.specs.Lines.{entryOf}
@@ -24,6 +23,7 @@ use Rattle.outcomes.specs.declared.Outcome.{Outcome}
 use Rattle.outcomes.specs.Outcomes.{placed}
 use Rattle.statement.specs.Statement.{readOf}
 use Rattle.growing.specs.Growing.{longerBy}
+use Rattle.growing.specs.Sorts.{columnOf}
 use Rattle.outputs.specs.Outputs.{tableBytes, reportedBytes}
 use Rattle.listing.specs.Listing.{entryTaken, lineTaken}
 
@@ -50,16 +50,6 @@ callVerdict statement table line =
     (smaller (tableVerdict table)
     (smaller (read .verdict)
     (lineTaken (numbersOf table) (read .holding) line .verdict)))
-
--- the column of a T entry; every other entry is a step of the holding
-abbrev pub columnOf : Entry → Found
-columnOf (Column column cells) = At column
-columnOf (Open area opening) = Nowhere
-columnOf (Add area sub land forest year) = Nowhere
-columnOf (Clear area sub year) = Nowhere
-columnOf (Plant area sub forest year) = Nowhere
-columnOf (File area last) = Nowhere
-columnOf (Withdraw area) = Nowhere
 
 -- "The output takes the new statement, then what `book` prints for an accepted R or W"
 abbrev pub stateBytes : Holding → Outcome → List ℕ

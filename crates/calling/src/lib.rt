@@ -7,7 +7,7 @@ ghost use Rattle.decoding.specs.Bytes.{numbersOf, decodable};
 ghost use Rattle.growing.specs.Growing.{longerBy};
 ghost use Rattle.statement.specs.Statement.{readOf};
 ghost use Rattle.outputs.specs.Outputs.{tableBytes};
-ghost use Rattle.calling.specs.Call.{tableVerdict, smaller, columnOf, entryBytes, callBytes, callWeighed, callOutput};
+ghost use Rattle.calling.specs.Call.{tableVerdict, smaller, entryBytes, callBytes, callWeighed, callOutput};
 ghost use Rattle.calling.specs.Parts.{Gives, refusedBy, entryVerdict, columnVerdict, stepVerdict, stepBytes};
 use answers::Written;
 use entries::Entry;
@@ -40,39 +40,6 @@ fn refused_by(parsed: Parsed) -> Written
     match parsed {
         Parsed::Turned(refusal) => Written::Refused(refusal),
         Parsed::Taken(_) => Written::Count(0),
-    }
-}
-
-// The column of a T entry; every other entry is a step of the holding.
-fn column_of(entry: Entry) -> Found
-    ensures { λ r. ⌜ r ≡ columnOf entry ⌝ }
-{
-    match entry {
-        Entry::Column { column, cells: _ } => Found::At(column),
-        Entry::Open {
-            area: _,
-            opening: _,
-        } => Found::Nowhere,
-        Entry::Add {
-            area: _,
-            sub: _,
-            land: _,
-            forest: _,
-            planted: _,
-        } => Found::Nowhere,
-        Entry::Clear {
-            area: _,
-            sub: _,
-            year: _,
-        } => Found::Nowhere,
-        Entry::Plant {
-            area: _,
-            sub: _,
-            forest: _,
-            year: _,
-        } => Found::Nowhere,
-        Entry::File { area: _, last: _ } => Found::Nowhere,
-        Entry::Withdraw { area: _ } => Found::Nowhere,
     }
 }
 
@@ -139,7 +106,7 @@ fn take_step(statement: &[u8], own: &[u16], entry: Entry, out: &mut [u8]) -> Wri
 fn take_entry(statement: &[u8], own: &[u16], line: &[u8], entry: Entry, out: &mut [u8]) -> Written
     ensures { λ r. ⌜ Gives (entryVerdict (now (own .entry)) (now (statement .entry)) (now (line .entry)) entry) (entryBytes (now (own .entry)) (readOf (now (statement .entry)) .holding) (now (line .entry)) entry) (now (out .entry)) r (now (out .exit)) ⌝ }
 {
-    let found = column_of(entry);
+    let found = growing::column_of(entry);
     match found {
         Found::At(column) => take_column(statement, own, line, column, out),
         Found::Nowhere => take_step(statement, own, entry, out),

@@ -24,6 +24,7 @@ use Rattle.outcomes.specs.Outcomes.{placed}
 use Rattle.format.specs.Format.{statementOf}
 use Rattle.statement.specs.Statement.{readOf}
 use Rattle.growing.specs.Growing.{growable, longerBy}
+use Rattle.growing.specs.Sorts.{columnOf}
 use Rattle.growing.proofs.Fits.{longer-fits}
 use Rattle.printing.specs.Printing.{reportText}
 use Rattle.listing.specs.Listing.{entryTaken, parsedTaken, lineTaken, listFrom, start, longestBook, listingOf}
@@ -34,7 +35,7 @@ use Rattle.trips.proofs.Trips.{read-kept}
 use Rattle.room.proofs.Widths.{mostPrinted, printed-most}
 use Rattle.room.proofs.Reports.{applied-length}
 use Rattle.outputs.proofs.TableBytes.{bytes-length}
-use Rattle.calling.specs.Call.{tableVerdict, callVerdict, columnOf, foundBytes, entryBytes, parsedBytes, callBytes}
+use Rattle.calling.specs.Call.{tableVerdict, callVerdict, foundBytes, entryBytes, parsedBytes, callBytes}
 use Rattle.calling.proofs.Smaller.{call-clear}
 use Rattle.calling.proofs.Sorts.{column-taken, step-taken, accepted-column}
 use Rattle.calls.specs.Calls.{begin, callsFrom}

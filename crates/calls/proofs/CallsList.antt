@@ -25,12 +25,13 @@ use Rattle.outcomes.specs.declared.Outcome.{Outcome}
 use Rattle.outcomes.specs.Outcomes.{placed}
 use Rattle.format.specs.Format.{statementOf}
 use Rattle.growing.specs.Growing.{growable, longerBy}
+use Rattle.growing.specs.Sorts.{columnOf}
 use Rattle.printing.specs.Printing.{reportText, refusalText, pairText}
 use Rattle.listing.specs.Listing.{entryTaken, parsedTaken, lineTaken, parsedTable, tableAfter, Run, next, printedFor, printed, listFrom, start}
 use Rattle.keeping.specs.Kept.{Kept}
 use Rattle.keeping.proofs.Keeping.{empty-kept}
 use Rattle.outputs.specs.Outputs.{tableBytes}
-use Rattle.calling.specs.Call.{columnOf, stateBytes, foundBytes, entryBytes, parsedBytes, callVerdict, callBytes, callAnswer, callOutput}
+use Rattle.calling.specs.Call.{stateBytes, foundBytes, entryBytes, parsedBytes, callVerdict, callBytes, callAnswer, callOutput}
 use Rattle.calling.proofs.Sorts.{column-taken, step-taken, accepted-column}
 use Rattle.calls.specs.Calls.{Caller, begin, statementIn, reportIn, taken, answered, afterCall, shown, shownAfter, callsFrom}
 use Rattle.calls.proofs.Split.{statement-split, report-split}

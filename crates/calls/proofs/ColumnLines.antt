@@ -18,7 +18,7 @@ use Rattle.columns.specs.Columns.{columnRule}
 use Rattle.lines.specs.Lines.{bodyOf, letterOf, noRule, ruleOf, lineRule, conditions, entryOf}
 use Rattle.standing.specs.Standing.{known}
 use Rattle.keeping.proofs.Tests.{clash}
-use Rattle.calling.specs.Call.{columnOf}
+use Rattle.growing.specs.Sorts.{columnOf}
 use Rattle.calling.proofs.Ranged.{taken-by}
 use Rattle.calls.specs.Calls.{isColumnLine}
 

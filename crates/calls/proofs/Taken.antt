@@ -16,12 +16,12 @@ use Rattle.outcomes.specs.declared.Outcome.{Outcome}
 use Rattle.outcomes.specs.Outcomes.{placed}
 use Rattle.steps.specs.Steps.{stepped}
 use Rattle.growing.specs.Growing.{growable}
+use Rattle.growing.specs.Sorts.{columnOf}
 use Rattle.listing.specs.Listing.{entryTaken, parsedTaken}
 use Rattle.keeping.specs.Kept.{Kept}
 use Rattle.keeping.proofs.Answers.{refusal-leaves}
 use Rattle.keeping.proofs.Keeping.{step-keeps}
 use Rattle.keeping.proofs.Refused.{refused-leaves}
-use Rattle.calling.specs.Call.{columnOf}
 use Rattle.calling.proofs.Sorts.{columnOutcome, column-taken, step-taken}
 
 module _ (own : List ℕ) (holding : Holding) (table : isTable own ≡ true) (line : List ℕ) where

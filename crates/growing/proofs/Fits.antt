@@ -1,13 +1,13 @@
 -- The longer table, for those who lend it on: an extension that is not refused has room, so the table is the front of the numbers.
 use Prim.Native.Nat.{ℕ, _≤_}
-use mathlib.Core.Path.{_≡_, ap, _∙_}
+use mathlib.Core.Path.{_≡_, refl, ap, _∙_}
 use mathlib.Core.List.{List}
 use native.Mathlib.Omega.{arith}
 use lib.ListN.{length, take, drop, replicate}
 use lib.Seq.{take-append-seam}
 use Rattle.refusals.specs.declared.Refusal.the-variants.{TableAfterArea}
 use Rattle.refusals.specs.declared.Verdict.{Verdict}
-use Rattle.refusals.specs.declared.Verdict.the-variants.{Clear}
+use Rattle.refusals.specs.declared.Verdict.the-variants.{Clear, Turned}
 use Rattle.refusals.proofs.Laws.{clear-before}
 use Rattle.answers.specs.Answers.{bufferAfter}
 use Rattle.tables.specs.Participant.{longestTable}
@@ -35,3 +35,12 @@ module _ (own : List ℕ) (areas : ℕ) (line : List ℕ) (column : ℕ) (clear 
     pub grown-front : take (grown .count) (grown .numbers) ≡ longerBy own line column
     unfolding grownBy
     grown-front = ap (λ (g : Grown). take (g .count) (g .numbers)) e ∙ clear-front (growable own areas line column) (longerBy own line column) clear
+
+-- whatever the verdict, the count is within the numbers
+pub count-fits : (own : List ℕ) (areas : ℕ) (line : List ℕ) (column : ℕ) → grownBy own areas line column .count ≤ longestTable
+unfolding grownBy
+count-fits own areas line column = go (growable own areas line column) refl
+  where
+    go : (v : Verdict) → growable own areas line column ≡ v → countAfter v (longerBy own line column) ≤ longestTable
+    go Clear e = longer-fits own areas line column e
+    go (Turned refusal) e = omega arith

@@ -9,7 +9,10 @@ ghost use Rattle.refusals.specs.Refusals.{weighed};
 ghost use Rattle.tables.specs.Participant.{longestTable};
 ghost use Rattle.extension.specs.Extension.{begun, longer, extensible};
 ghost use Rattle.growing.specs.Growing.{lineCells, grownOf, grownBy};
+ghost use Rattle.growing.specs.Sorts.{columnOf};
 use answers::Written;
+use entries::Entry;
+use holding::Found;
 use refusals::Refusal;
 use refusals::Verdict;
 
@@ -73,5 +76,38 @@ pub fn grow(own: &[u16], areas: usize, line: &[u8], column: usize) -> Grown
     match read {
         Verdict::Turned(_) => turned(Refusal::TableColumn),
         Verdict::Clear => grow_by(own, areas, column, &cells[0..count]),
+    }
+}
+
+// The column of a T entry; every other entry is a step of the holding.
+pub fn column_of(entry: Entry) -> Found
+    ensures { λ r. ⌜ r ≡ columnOf entry ⌝ }
+{
+    match entry {
+        Entry::Column { column, cells: _ } => Found::At(column),
+        Entry::Open {
+            area: _,
+            opening: _,
+        } => Found::Nowhere,
+        Entry::Add {
+            area: _,
+            sub: _,
+            land: _,
+            forest: _,
+            planted: _,
+        } => Found::Nowhere,
+        Entry::Clear {
+            area: _,
+            sub: _,
+            year: _,
+        } => Found::Nowhere,
+        Entry::Plant {
+            area: _,
+            sub: _,
+            forest: _,
+            year: _,
+        } => Found::Nowhere,
+        Entry::File { area: _, last: _ } => Found::Nowhere,
+        Entry::Withdraw { area: _ } => Found::Nowhere,
     }
 }

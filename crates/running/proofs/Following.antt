@@ -1,14 +1,12 @@
 -- A turn of the loop is a turn of the fold: the code's table, holding and counts after a line are those of the run that follows.
-use Prim.Native.Nat.{ℕ, _+_, _-_, _≤_}
+use Prim.Native.Nat.{ℕ, _+_, _-_}
 use mathlib.Core.Path.{_≡_, refl, ap, _∙_}
 use mathlib.Core.List.{List}
 use native.Mathlib.Omega.{arith}
-use lib.ListN.{length, take, length-set}
-use borrow.Author.Tests.{eq-eqb, ne-eqb}
+use lib.ListN.{length, length-set}
 use Rattle.refusals.specs.declared.Verdict.{Verdict}
 use Rattle.refusals.specs.declared.Verdict.the-variants.{Clear as Accepted, Turned as Refused}
 use Rattle.schedules.specs.Schedules.{schedule6}
-use Rattle.tables.specs.Participant.{longestTable}
 use Rattle.holding.specs.declared.Holding.{Holding}
 use Rattle.holding.specs.declared.Found.{Found}
 use Rattle.holding.specs.declared.Found.the-variants.{At, Nowhere}
@@ -16,18 +14,9 @@ use Rattle.outcomes.specs.declared.Outcome.{Outcome}
 use Rattle.outcomes.specs.Outcomes.{placedAt, placed}
 use Rattle.listing.specs.Listing.{lineTaken, ifAccepted, tableAfter, Run, next, printedFor, printed}
 use Rattle.taking.specs.declared.Turn.{Turn}
-use Rattle.taking.specs.Turns.{turnOf, tableOr}
-use Rattle.running.proofs.Turns.{turn-outcome, turn-table, turn-fits}
-
--- the table after a turn, by its count
-module _ (own : List ℕ) (count : ℕ) (numbers : List ℕ) where
-  pub table-grown : (count ≡ 0 → ⊥) → take count numbers ≡ tableOr own count numbers
-  unfolding tableOr
-  table-grown ne = simp (ne-eqb count 0 ne)
-
-  pub table-stays : count ≡ 0 → own ≡ tableOr own count numbers
-  unfolding tableOr
-  table-stays e = simp (eq-eqb count 0 e)
+use Rattle.taking.specs.Turns.{turnOf}
+use Rattle.running.specs.Tables.{tableBy}
+use Rattle.running.proofs.Turns.{turn-outcome, turn-table}
 
 -- a step leaves as many places for areas as there were
 pub placed-long : (holding : Holding) (outcome : Outcome) → length (placed holding outcome .areas) ≡ length (holding .areas)
@@ -50,14 +39,11 @@ module _ (run : Run) (line own default : List ℕ) (turn : Turn) (t : turn ≡ t
   outcome-is : turn .outcome ≡ lineTaken (run .own) (run .holding) line
   outcome-is = ap (λ (x : Turn). x .outcome) turn-is ∙ turn-outcome (run .own) (run .holding) line
 
-  pub turn-short : turn .count ≤ longestTable
-  turn-short = omega (arith, ap (λ (x : Turn). x .count) turn-is, turn-fits (run .own) (run .holding) line)
-
   pub turn-prints : printedFor (run .accepted + run .refused + 1) (turn .outcome .verdict) (turn .outcome) ≡ printed run line
   unfolding printed
   turn-prints = ap (λ (x : Outcome). printedFor (run .accepted + run .refused + 1) (x .verdict) x) outcome-is
 
-  pub turn-runs : (table : List ℕ) (holding : Holding) (accepted refused taken : ℕ) → table ≡ tableOr (run .own) (turn .count) (turn .numbers)
+  pub turn-runs : (table : List ℕ) (holding : Holding) (accepted refused taken : ℕ) → table ≡ tableBy (run .own) (run .holding .count) line (turn .column)
       → holding ≡ placed (run .holding) (turn .outcome) → taken ≡ ifAccepted (turn .outcome .verdict) 1 0
       → accepted ≡ run .accepted + taken → refused ≡ run .refused + (1 - taken)
       → record { own = table; holding = holding; accepted = accepted; refused = refused } ≡ next run line
@@ -67,7 +53,7 @@ module _ (run : Run) (line own default : List ℕ) (turn : Turn) (t : turn ≡ t
       let w : v ≡ lineTaken (run .own) (run .holding) line .verdict = ap (λ (x : Outcome). x .verdict) outcome-is in
       let grown : table ≡ tableAfter (run .own) (run .holding) line =
       b
-      ∙ ap (λ (x : Turn). tableOr (run .own) (x .count) (x .numbers)) turn-is
+      ∙ ap (λ (x : Turn). tableBy (run .own) (run .holding .count) line (x .column)) turn-is
       ∙ turn-table (run .own) (run .holding) line in
       let stands : holding ≡ placed (run .holding) (lineTaken (run .own) (run .holding) line) = h ∙ ap (placed (run .holding)) outcome-is in
       let counts = one-or-none v (run .accepted) (run .refused) in

@@ -1,14 +1,35 @@
 // Runs a book line by line, on one holding and one table, and puts its listing.
+ghost use mathlib.Core.Path.{_≡_};
 ghost use Prim.Native.Nat.{_≤_};
-ghost use lib.ListN.{length};
+ghost use lib.ListN.{length, take};
+ghost use Rattle.tables.specs.Participant.{longestTable};
 ghost use Rattle.text.specs.Writing.{Wrote};
 ghost use Rattle.listing.specs.Lines.{linesOf};
 ghost use Rattle.listing.specs.Listing.{start, listFrom, listingOf};
+ghost use Rattle.running.specs.Tables.{tableBy, Fronts};
 use holding::Found;
 use refusals::Refusal;
 
 // The longest book, in bytes.
 const LONGEST: usize = 65536;
+
+// Grows the table where a T line was accepted; the answer is its length. `taking::take` has grown it once to judge the line: at most ten
+// lines of a book are accepted T lines, and so no turn has a table to carry.
+fn extend(table: &mut [u16; 1020], count: usize, areas: usize, line: &[u8], column: Found) -> usize
+    requires { ⌜ (count ≤ longestTable) × (length (now table) ≡ longestTable) ⌝ }
+    ensures { λ r. ⌜ Fronts (now (table .exit)) r (tableBy (take count (now (table .entry))) areas (now (line .entry)) column) ⌝ }
+{
+    match column {
+        Found::At(k) => {
+            let own = &table[..];
+            let grown = growing::grow(&own[0..count], areas, line, k);
+            let numbers = grown.numbers;
+            *table = numbers;
+            grown.count
+        }
+        Found::Nowhere => count,
+    }
+}
 
 // Puts the listing of a book that is not too long; the answer, here and below, is the place after what was put.
 fn put_lines(book: &[u8], out: &mut [u8]) -> usize
@@ -26,6 +47,8 @@ fn put_lines(book: &[u8], out: &mut [u8]) -> usize
     while i < book.len() {
         let end = listing::end_of(book, i);
         let turn = taking::take(&table[0..count], &default, holding, &book[i..end]);
+        let column = turn.column;
+        count = extend(&mut table, count, holding.count, &book[i..end], column);
         let outcome = turn.outcome;
         at = listing::put_line(out, at, accepted + refused + 1, outcome);
         let verdict = outcome.verdict;
@@ -39,11 +62,6 @@ fn put_lines(book: &[u8], out: &mut [u8]) -> usize
                 holding.areas[k] = area;
             }
             holding.count = outcome.count;
-        }
-        if turn.count != 0 {
-            count = turn.count;
-            let numbers = turn.numbers;
-            table = numbers;
         }
         i = end + 1;
     }

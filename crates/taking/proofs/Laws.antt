@@ -5,48 +5,47 @@ use mathlib.Core.List.{List}
 use Rattle.refusals.specs.declared.Refusal.{Refusal}
 use Rattle.refusals.specs.declared.Verdict.{Verdict}
 use Rattle.refusals.specs.declared.Verdict.the-variants.{Clear, Turned}
-use Rattle.answers.specs.Answers.{bufferAfter}
 use Rattle.entries.specs.declared.Entry.{Entry}
 use Rattle.entries.specs.declared.Parsed.{Parsed}
 use Rattle.entries.specs.declared.Parsed.the-variants.{Taken, Turned as Unread}
 use Rattle.holding.specs.declared.Area.{Area}
 use Rattle.holding.specs.declared.Holding.{Holding}
-use Rattle.holding.specs.declared.Found.the-variants.{Nowhere}
+use Rattle.holding.specs.declared.Found.{Found}
+use Rattle.holding.specs.declared.Found.the-variants.{At, Nowhere}
 use Rattle.holding.specs.Holding.{emptyArea}
 use Rattle.outcomes.specs.declared.Report.the-variants.{Nothing}
 use Rattle.outcomes.specs.Outcomes.{turnedBack, accepted, answered}
-use Rattle.steps.specs.Steps.{applied}
 use Rattle.growing.specs.declared.Grown.{Grown}
-use Rattle.growing.specs.Growing.{longerBy, grownOf, grownBy}
+use Rattle.growing.specs.Growing.{growable, grownBy}
+use Rattle.growing.specs.Sorts.{columnOf}
 use Rattle.taking.specs.declared.Turn.{Turn}
-use Rattle.taking.specs.Turns.{stayed, extended, columnTurn, entryTurn, refusalIn, parsedTurn}
+use Rattle.taking.specs.Turns.{stayed, columnTurn, foundTurn, entryTurn, refusalIn, parsedTurn}
 
-module _ (holding : Holding) (grown : Grown) where
+module _ (holding : Holding) (own line : List ℕ) (column : ℕ) (grown : Grown) (e : grown ≡ grownBy own (holding .count) line column) where
+  verdict-is : grown .verdict ≡ growable own (holding .count) line column
+  unfolding grownBy
+  verdict-is = ap (λ (g : Grown). g .verdict) e
+
   -- turned back, the table stays
-  pub column-turned : (own line : List ℕ) (column : ℕ) (refusal : Refusal) (turn : Turn) → turn ≡ stayed (turnedBack refusal)
-      → grown ≡ grownBy own (holding .count) line column → grown .verdict ≡ Turned refusal → turn ≡ columnTurn holding (grownBy own (holding .count) line column)
-  unfolding grownBy stayed columnTurn extended answered bufferAfter
-  column-turned own line column refusal turn t e v =
-      t
-      ∙ sym (ap (λ (w : Verdict). columnTurn holding (grownOf w (longerBy own line column))) (sym (ap (λ (g : Grown). g .verdict) e) ∙ v))
+  pub column-turned : (refusal : Refusal) (turn : Turn) → turn ≡ stayed (turnedBack refusal) → grown .verdict ≡ Turned refusal
+      → turn ≡ columnTurn holding (growable own (holding .count) line column) column
+  unfolding stayed columnTurn answered
+  column-turned refusal turn t v = t ∙ ap (λ (w : Verdict). columnTurn holding w column) (sym v ∙ verdict-is)
 
-  pub column-taken : (made : Grown) (area : Area) → grown ≡ made → grown .verdict ≡ Clear → area ≡ emptyArea
-      → record { outcome = accepted Nothing Nowhere (holding .count) area; count = grown .count; numbers = grown .numbers } ≡ columnTurn holding made
-  unfolding columnTurn extended answered
-  column-taken made area e v a = go ∙ ap (columnTurn holding) e
-    where
-      go : record { outcome = accepted Nothing Nowhere (holding .count) area; count = grown .count; numbers = grown .numbers } ≡ columnTurn holding grown
-      go = simp (v, a)
+  pub column-taken : (area : Area) → grown .verdict ≡ Clear → area ≡ emptyArea
+      → record { outcome = accepted Nothing Nowhere (holding .count) area; column = At column }
+      ≡ columnTurn holding (growable own (holding .count) line column) column
+  unfolding columnTurn answered
+  column-taken area v a =
+      ap (λ (x : Area). record { outcome = accepted Nothing Nowhere (holding .count) x; column = At column }) a
+      ∙ ap (λ (w : Verdict). columnTurn holding w column) (sym v ∙ verdict-is)
 
 module _ (own default : List ℕ) (holding : Holding) (line : List ℕ) (turn : Turn) where
-  -- an entry that is known to be another
-  pub entry-stays : (entry known : Entry) → turn ≡ stayed (applied own default holding entry) → entry ≡ known
-      → stayed (applied own default holding known) ≡ entryTurn own default holding line known → turn ≡ entryTurn own default holding line entry
-  entry-stays entry known t e k =
-      t
-      ∙ ap (λ (x : Entry). stayed (applied own default holding x)) e
-      ∙ k
-      ∙ sym (ap (entryTurn own default holding line) e)
+  -- an entry, by its sort
+  pub entry-found : (entry : Entry) (found sort : Found) → found ≡ columnOf entry → found ≡ sort → turn ≡ foundTurn own default holding line entry sort
+      → turn ≡ entryTurn own default holding line entry
+  unfolding entryTurn
+  entry-found entry found sort c f t = t ∙ ap (foundTurn own default holding line entry) (sym f ∙ c)
 
   module _ (parsed read : Parsed) (e : parsed ≡ read) where
     pub line-turned : (r refusal : Refusal) → parsed ≡ Unread r → refusal ≡ refusalIn parsed → turn ≡ stayed (turnedBack refusal)

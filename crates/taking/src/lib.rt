@@ -2,7 +2,7 @@
 ghost use mathlib.Core.Path.{_≡_};
 ghost use Rattle.outcomes.specs.Outcomes.{turnedBack};
 ghost use Rattle.steps.specs.Steps.{applied};
-ghost use Rattle.growing.specs.Growing.{grownBy};
+ghost use Rattle.growing.specs.Growing.{growable};
 ghost use Rattle.taking.specs.Turns.{stayed, columnTurn, entryTurn, refusalIn, turnOf};
 use entries::Entry;
 use entries::Parsed;
@@ -13,11 +13,10 @@ use outcomes::Report;
 use refusals::Refusal;
 use refusals::Verdict;
 
-// The outcome on the holding, and the longer table of an accepted T line: how many numbers it has, none where the table stays.
+// The outcome on the holding, and the column of an accepted T line: the table is grown by whoever has it, and is not copied for every line.
 pub struct Turn {
     pub outcome: Outcome,
-    pub count: usize,
-    pub numbers: [u16; 1020],
+    pub column: Found,
 }
 
 fn stay(outcome: Outcome) -> Turn
@@ -25,8 +24,7 @@ fn stay(outcome: Outcome) -> Turn
 {
     Turn {
         outcome,
-        count: 0,
-        numbers: [0u16; 1020],
+        column: Found::Nowhere,
     }
 }
 
@@ -39,7 +37,7 @@ fn turned(refusal: Refusal) -> Turn
 
 // T extends the table and leaves the holding.
 fn take_column(own: &[u16], holding: Holding, line: &[u8], column: usize) -> Turn
-    ensures { λ r. ⌜ r ≡ columnTurn holding (grownBy (now (own .entry)) (holding .count) (now (line .entry)) column) ⌝ }
+    ensures { λ r. ⌜ r ≡ columnTurn holding (growable (now (own .entry)) (holding .count) (now (line .entry)) column) column ⌝ }
 {
     let grown = growing::grow(own, holding.count, line, column);
     let verdict = grown.verdict;
@@ -47,7 +45,6 @@ fn take_column(own: &[u16], holding: Holding, line: &[u8], column: usize) -> Tur
         Verdict::Turned(refusal) => turned(refusal),
         Verdict::Clear => {
             let area = holding::empty_area();
-            let numbers = grown.numbers;
             Turn {
                 outcome: Outcome {
                     verdict: Verdict::Clear,
@@ -56,8 +53,7 @@ fn take_column(own: &[u16], holding: Holding, line: &[u8], column: usize) -> Tur
                     count: holding.count,
                     area,
                 },
-                count: grown.count,
-                numbers,
+                column: Found::At(column),
             }
         }
     }
@@ -80,32 +76,10 @@ fn take_entry<'a>(
 ) -> Turn
     ensures { λ r. ⌜ r ≡ entryTurn (now (own .entry)) (now (default .entry)) holding (now (line .entry)) entry ⌝ }
 {
-    match entry {
-        Entry::Column { column, cells: _ } => take_column(own, holding, line, column),
-        Entry::Open {
-            area: _,
-            opening: _,
-        } => take_step(own, default, holding, entry),
-        Entry::Add {
-            area: _,
-            sub: _,
-            land: _,
-            forest: _,
-            planted: _,
-        } => take_step(own, default, holding, entry),
-        Entry::Clear {
-            area: _,
-            sub: _,
-            year: _,
-        } => take_step(own, default, holding, entry),
-        Entry::Plant {
-            area: _,
-            sub: _,
-            forest: _,
-            year: _,
-        } => take_step(own, default, holding, entry),
-        Entry::File { area: _, last: _ } => take_step(own, default, holding, entry),
-        Entry::Withdraw { area: _ } => take_step(own, default, holding, entry),
+    let found = growing::column_of(entry);
+    match found {
+        Found::At(column) => take_column(own, holding, line, column),
+        Found::Nowhere => take_step(own, default, holding, entry),
     }
 }
 

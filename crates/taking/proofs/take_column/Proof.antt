@@ -6,13 +6,13 @@ use Rattle.taking.proofs.take_column.Tie as tie
 
 returns : tie.Need-returns
 returns c =
-    let g = c .before .before .before .before in
-    column-turned _ _ _ _ _ _ _ (c .turned .ensures) (g .grow .ensures) (c .before .before .verdict .given .1)
+    let told = c .before .before in
+    column-turned _ _ _ _ _ (told .before .before .grow .ensures) _ _ (c .turned .ensures) (told .verdict .given .1)
 
 returns-2 : tie.Need-returns-2
 returns-2 c =
-    let told = c .before .before in
-    column-taken _ _ _ _ (told .before .before .grow .ensures) (told .enum-told .given .1) (c .before .empty-area .ensures)
+    let told = c .before in
+    column-taken _ _ _ _ _ (told .before .before .grow .ensures) _ (told .enum-told .given .1) (c .empty-area .ensures)
 
 pub take-column-spec : {M : Type 1} → statement M
 take-column-spec =

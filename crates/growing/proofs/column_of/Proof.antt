@@ -1,9 +1,9 @@
--- `calling::column_of` meets its contract: in each arm the entry is the arm's.
+-- `growing::column_of` meets its contract: in each arm the entry is the arm's.
 use mathlib.Core.Path.{sym, ap}
-use Rattle.calling.specs.Call.{columnOf}
+use Rattle.growing.specs.Sorts.{columnOf}
 use borrow.Author.Needs.{needs}
-use Rattle.calling.proofs.column_of.Statement.{statement}
-use Rattle.calling.proofs.column_of.Tie as tie
+use Rattle.growing.proofs.column_of.Statement.{statement}
+use Rattle.growing.proofs.column_of.Tie as tie
 
 returns : tie.Need-returns
 returns c = sym (ap columnOf (c .before .entry .given .1))
