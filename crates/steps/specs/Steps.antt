@@ -8,7 +8,7 @@ use Rattle.refusals.specs.Refusals.{_⇒_, smallest}
 use Rattle.schedules.specs.Schedules.{schedule6}
 use Rattle.tables.specs.Participant.{isTable}
 use Rattle.entries.specs.declared.Entry.{Entry}
-use Rattle.entries.specs.declared.Entry.the-variants.{Open, Add, Plant, File, Withdraw, Column}
+use Rattle.entries.specs.declared.Entry.the-variants.{Open, Add, Clear, Plant, File, Withdraw, Column}
 use Rattle.holding.specs.declared.Holding.{Holding}
 use Rattle.holding.specs.declared.Found.the-variants.{Nowhere}
 use Rattle.holding.specs.Holding.{emptyArea}
