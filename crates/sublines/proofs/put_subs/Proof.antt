@@ -1,4 +1,4 @@
--- `records::put_subs` meets its contract. The loop's invariant: the lines before the i-th sub-area's are put.
+-- `sublines::put_subs` meets its contract. The loop's invariant: the lines before the i-th sub-area's are put.
 use Prim.Native.Nat.{_-_, _*_, _≤_}
 use mathlib.Core.Path.{_≡_}
 use native.Mathlib.Omega.{arith}
@@ -6,12 +6,12 @@ use lib.ListN.{length, take}
 use Rattle.laws.proofs.Standing.{as-long}
 use Rattle.text.proofs.Writes.{wrote-length}
 use Rattle.format.specs.Format.{texts, subText}
 use Rattle.records.specs.Put.{Put}
 use Rattle.records.proofs.Puts.{put-none, put-within}
 use Rattle.records.proofs.Texts.{put-next, put-end, put-out}
 use borrow.Author.Needs.{needs}
-use Rattle.records.proofs.put_subs.Statement.{statement}
-use Rattle.records.proofs.put_subs.Tie as tie
+use Rattle.sublines.proofs.put_subs.Statement.{statement}
+use Rattle.sublines.proofs.put_subs.Tie as tie
 
 abbrev Inv-loop : tie.InvT-loop
 Inv-loop out₀ at area n next₀ i₀ out next i = (i ≤ 16) × Put (53 * i) out₀ at (texts subText (take i (take n (area .subs)))) out next

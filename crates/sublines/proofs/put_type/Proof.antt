@@ -1,11 +1,11 @@
--- `records::put_type` meets its contract: what is written of a type is its letters, at most two.
+-- `sublines::put_type` meets its contract: what is written of a type is its letters, at most two.
 use Rattle.text.proofs.Writes.{wrote-as}
 use Rattle.format.specs.Format.{typeText}
 use Rattle.records.proofs.Puts.{put-then, put-one}
-use Rattle.records.proofs.Letters.{two-letters, letters-fit, letters-are}
+use Rattle.sublines.proofs.Letters.{two-letters, letters-fit, letters-are}
 use borrow.Author.Needs.{needs}
-use Rattle.records.proofs.put_type.Statement.{statement}
-use Rattle.records.proofs.put_type.Tie as tie
+use Rattle.sublines.proofs.put_type.Statement.{statement}
+use Rattle.sublines.proofs.put_type.Tie as tie
 
 part-put-bytes-end : tie.Need-part-put-bytes-end
 part-put-bytes-end c =

@@ -1,9 +1,9 @@
--- `records::put_residue` meets its contract: its three fields, one after the other.
+-- `sublines::put_residue` meets its contract: its three fields, one after the other.
 use Rattle.format.specs.Format.{joined, residueText}
 use Rattle.records.proofs.Puts.{put-then, put-last}
 use borrow.Author.Needs.{needs}
-use Rattle.records.proofs.put_residue.Statement.{statement}
-use Rattle.records.proofs.put_residue.Tie as tie
+use Rattle.sublines.proofs.put_residue.Statement.{statement}
+use Rattle.sublines.proofs.put_residue.Tie as tie
 
 returns : tie.Need-returns
 unfolding residueText joined

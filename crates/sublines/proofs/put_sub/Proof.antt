@@ -1,9 +1,9 @@
--- `records::put_sub` meets its contract: its fields, one after the other.
+-- `sublines::put_sub` meets its contract: its fields, one after the other.
 use Rattle.format.specs.Format.{joined, subText}
 use Rattle.records.proofs.Puts.{put-then, put-last}
 use borrow.Author.Needs.{needs}
-use Rattle.records.proofs.put_sub.Statement.{statement}
-use Rattle.records.proofs.put_sub.Tie as tie
+use Rattle.sublines.proofs.put_sub.Statement.{statement}
+use Rattle.sublines.proofs.put_sub.Tie as tie
 
 returns : tie.Need-returns
 unfolding subText joined
