@@ -18,7 +18,7 @@ use Rattle.forest.specs.declared.Named.{Named}
 use Rattle.forest.specs.declared.Named.the-variants.{Listed, Unlisted}
 use Rattle.numbers.specs.declared.Number.{Number}
 use Rattle.numbers.specs.declared.Number.the-variants.{Value, Large, Malformed}
-use Rattle.numbers.specs.Ranges.{outside, valueOf}
+use Rattle.values.specs.Ranges.{outside, valueOf}
 use Rattle.ranges.specs.Ranges.{isBare, isArea, isSub, isYear, isLand, isPlanted}
 use Rattle.entries.specs.declared.Entry.{Entry}
 use Rattle.entries.specs.declared.Entry.the-variants.{Open, Add, Clear, Plant, File, Withdraw, Column}

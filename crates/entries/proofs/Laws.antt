@@ -9,8 +9,8 @@ use Rattle.forest.specs.declared.Named.the-variants.{Listed, Unlisted}
 use Rattle.text.specs.Fields.{split, fieldAt}
 use Rattle.numbers.specs.declared.Number.{Number}
 use Rattle.numbers.specs.Numbers.{numberIn}
-use Rattle.numbers.specs.Ranges.{outside, valueOf, fitted}
-use Rattle.numbers.proofs.Laws.{fitted-is}
+use Rattle.values.specs.Ranges.{outside, valueOf, fitted}
+use Rattle.values.proofs.Laws.{fitted-is}
 use Rattle.fields.specs.declared.Places.{Places}
 use Rattle.fields.specs.Places.{placesOf, part}
 use Rattle.fields.proofs.Laws.{field-found}

@@ -10,7 +10,7 @@ use Rattle.forest.specs.Letters.{named}
 use Rattle.text.specs.Fields.{fieldAt}
 use Rattle.numbers.specs.declared.Number.{Number}
 use Rattle.numbers.specs.Numbers.{numberIn}
-use Rattle.numbers.specs.Ranges.{outside}
+use Rattle.values.specs.Ranges.{outside}
 use Rattle.decimals.specs.Decimals.{hectaresIn}
 use Rattle.ranges.specs.Ranges.{lastArea, lastSub, firstYear, lastYear, firstPlanted, isBare}
 

@@ -6,7 +6,7 @@ use mathlib.Core.List.{List, [], _∷_}
 use lib.Dec.{eqb}
 use lib.ListN.{length}
 use Rattle.units.specs.Units.{tenthsOf}
-use Rattle.numbers.specs.Ranges.{malformed, valueOf}
+use Rattle.values.specs.Ranges.{malformed, valueOf}
 use Rattle.refusals.specs.declared.Refusal.the-variants.{Form, AreaOrSubNumber, ForestType, Hectares, YearRange}
 use Rattle.refusals.specs.declared.Verdict.{Verdict}
 use Rattle.refusals.specs.declared.Verdict.the-variants.{Clear, Turned as TurnedBy}

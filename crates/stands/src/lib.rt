@@ -26,9 +26,9 @@ pub fn clear_entry(line: &[u8]) -> Parsed
     match v {
         Verdict::Turned(refusal) => Parsed::Turned(refusal),
         Verdict::Clear => Parsed::Taken(Entry::Clear {
-            area: numbers::value_u16(area),
-            sub: numbers::value_u8(sub),
-            year: numbers::value_u16(year),
+            area: values::value_u16(area),
+            sub: values::value_u8(sub),
+            year: values::value_u16(year),
         }),
     }
 }
@@ -54,10 +54,10 @@ pub fn plant_entry(line: &[u8]) -> Parsed
     match v {
         Verdict::Turned(refusal) => Parsed::Turned(refusal),
         Verdict::Clear => Parsed::Taken(Entry::Plant {
-            area: numbers::value_u16(area),
-            sub: numbers::value_u8(sub),
+            area: values::value_u16(area),
+            sub: values::value_u8(sub),
             forest: entries::forest_of(named),
-            year: numbers::value_u16(year),
+            year: values::value_u16(year),
         }),
     }
 }

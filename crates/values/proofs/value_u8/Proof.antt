@@ -1,10 +1,10 @@
--- `numbers::value_u8` meets its contract: what is not outside the range fits.
+-- `values::value_u8` meets its contract: what is not outside the range fits.
 use mathlib.Core.Path.{sym, _∙_}
 use native.Mathlib.Omega.{arith}
 use borrow.Author.Needs.{needs}
-use Rattle.numbers.proofs.Laws.{inside, not-fitted, fits}
-use Rattle.numbers.proofs.value_u8.Statement.{statement}
-use Rattle.numbers.proofs.value_u8.Tie as tie
+use Rattle.values.proofs.Laws.{inside, not-fitted, fits}
+use Rattle.values.proofs.value_u8.Statement.{statement}
+use Rattle.values.proofs.value_u8.Tie as tie
 
 pub value-u8-spec : {M : Type 1} → statement M
 value-u8-spec =

@@ -1,7 +1,7 @@
--- `numbers::is_outside` meets its contract, by the number.
+-- `values::is_outside` meets its contract, by the number.
 use borrow.Author.Needs.{needs}
-use Rattle.numbers.proofs.is_outside.Statement.{statement}
-use Rattle.numbers.proofs.is_outside.Tie as tie
+use Rattle.values.proofs.is_outside.Statement.{statement}
+use Rattle.values.proofs.is_outside.Tie as tie
 
 pub is-outside-spec : {M : Type 1} → statement M
 is-outside-spec =
