@@ -23,7 +23,8 @@ use Rattle.ranges.specs.Ranges.{isBare, isArea, isSub, isYear, isLand, isPlante
 use Rattle.entries.specs.declared.Entry.{Entry}
 use Rattle.entries.specs.declared.Entry.the-variants.{Open, Add, Clear, Plant, File, Withdraw, Column}
 use Rattle.entries.specs.declared.Parsed.the-variants.{Taken}
-use Rattle.entries.specs.Ranges.{numberAt, hectaresAt, typeAt, badArea, badSub, badYear, unlisted, unplantable, misdated, forestOf}
+use Rattle.named.specs.Types.{unlisted, unplantable, misdated, forestOf}
+use Rattle.entries.specs.Ranges.{numberAt, hectaresAt, typeAt, badArea, badSub, badYear}
 use Rattle.entries.specs.Rules.{Rule, parsed, areaAndYear, openRule, addRule, clearRule, plantRule, fileRule, withdrawRule}
 use Rattle.columns.specs.Columns.{columnRule}
 use Rattle.lines.specs.Lines.{bodyOf, letterOf, noRule, ruleOf, lineRule, conditions, entryOf}

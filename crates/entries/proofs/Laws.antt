@@ -20,7 +20,8 @@ use Rattle.refusals.specs.declared.Verdict.the-variants.{Clear, Turned as Turne
 use Rattle.entries.specs.declared.Entry.{Entry}
 use Rattle.entries.specs.declared.Parsed.the-variants.{Taken, Turned}
 use Rattle.ranges.specs.Ranges.{isBare}
-use Rattle.entries.specs.Ranges.{numberAt, misdatedIf, misdated}
+use Rattle.named.specs.Types.{misdatedIf, misdated}
+use Rattle.entries.specs.Ranges.{numberAt}
 use Rattle.entries.specs.Rules.{parsed}
 
 -- the verdict w that was reached is the definition's, v

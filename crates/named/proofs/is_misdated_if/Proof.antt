@@ -1,7 +1,7 @@
--- `entries::is_misdated_if` meets its contract, by whether the land is bare.
+-- `named::is_misdated_if` meets its contract, by whether the land is bare.
 use borrow.Author.Needs.{needs}
-use Rattle.entries.proofs.is_misdated_if.Statement.{statement}
-use Rattle.entries.proofs.is_misdated_if.Tie as tie
+use Rattle.named.proofs.is_misdated_if.Statement.{statement}
+use Rattle.named.proofs.is_misdated_if.Tie as tie
 
 pub is-misdated-if-spec : {M : Type 1} → statement M
 is-misdated-if-spec =

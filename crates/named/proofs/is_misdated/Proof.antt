@@ -1,7 +1,7 @@
--- `entries::is_misdated` meets its contract, by the type.
+-- `named::is_misdated` meets its contract, by the type.
 use borrow.Author.Needs.{needs}
-use Rattle.entries.proofs.is_misdated.Statement.{statement}
-use Rattle.entries.proofs.is_misdated.Tie as tie
+use Rattle.named.proofs.is_misdated.Statement.{statement}
+use Rattle.named.proofs.is_misdated.Tie as tie
 
 pub is-misdated-spec : {M : Type 1} → statement M
 is-misdated-spec =
