@@ -3,7 +3,7 @@ use Prim.Native.Nat.{ℕ}
 use mathlib.Core.Path.{_≡_, refl, sym, ap, _∙_}
 use mathlib.Core.List.{List}
 use lib.Dec.{lit≤}
-use Rattle.numbers.specs.Ranges.{valueOf}
+use Rattle.values.specs.Ranges.{valueOf}
 use Rattle.refusals.specs.declared.Refusal.{Refusal}
 use Rattle.refusals.specs.declared.Verdict.the-variants.{Clear, Turned as TurnedBy}
 use Rattle.refusals.specs.Refusals.{smallest}

@@ -1,7 +1,7 @@
 -- What the code reads of an area and a year before it takes the entry.
 use Prim.Native.Nat.{ℕ}
 use mathlib.Core.List.{List}
-use Rattle.numbers.specs.Ranges.{fitted}
+use Rattle.values.specs.Ranges.{fitted}
 use Rattle.refusals.specs.Refusals.{smallest}
 use Rattle.entries.specs.Ranges.{numberAt}
 use Rattle.entries.specs.Rules.{areaAndYear}

@@ -29,8 +29,8 @@ fn area_and_year(line: &[u8]) -> AreaAndYear
     let v = entries::weigh_year(v, year);
     AreaAndYear {
         verdict: v,
-        area: numbers::value_u16(area),
-        year: numbers::value_u16(year),
+        area: values::value_u16(area),
+        year: values::value_u16(year),
     }
 }
 
@@ -77,7 +77,7 @@ pub fn withdraw_entry(line: &[u8]) -> Parsed
     match v {
         Verdict::Turned(refusal) => Parsed::Turned(refusal),
         Verdict::Clear => Parsed::Taken(Entry::Withdraw {
-            area: numbers::value_u16(area),
+            area: values::value_u16(area),
         }),
     }
 }

@@ -18,12 +18,13 @@ use Rattle.forest.specs.declared.Named.{Named}
 use Rattle.forest.specs.declared.Named.the-variants.{Listed, Unlisted}
 use Rattle.numbers.specs.declared.Number.{Number}
 use Rattle.numbers.specs.declared.Number.the-variants.{Value, Large, Malformed}
-use Rattle.numbers.specs.Ranges.{outside, valueOf}
+use Rattle.values.specs.Ranges.{outside, valueOf}
 use Rattle.ranges.specs.Ranges.{isBare, isArea, isSub, isYear, isLand, isPlanted}
 use Rattle.entries.specs.declared.Entry.{Entry}
 use Rattle.entries.specs.declared.Entry.the-variants.{Open, Add, Clear, Plant, File, Withdraw, Column}
 use Rattle.entries.specs.declared.Parsed.the-variants.{Taken}
-use Rattle.entries.specs.Ranges.{numberAt, hectaresAt, typeAt, badArea, badSub, badYear, unlisted, unplantable, misdated, forestOf}
+use Rattle.named.specs.Types.{unlisted, unplantable, misdated, forestOf}
+use Rattle.entries.specs.Ranges.{numberAt, hectaresAt, typeAt, badArea, badSub, badYear}
 use Rattle.entries.specs.Rules.{Rule, parsed, areaAndYear, openRule, addRule, clearRule, plantRule, fileRule, withdrawRule}
 use Rattle.columns.specs.Columns.{columnRule}
 use Rattle.lines.specs.Lines.{bodyOf, letterOf, noRule, ruleOf, lineRule, conditions, entryOf}

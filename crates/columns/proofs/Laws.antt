@@ -13,7 +13,7 @@ use Rattle.laws.specs.Elements.{some}
 use Rattle.text.specs.Fields.{width, split}
 use Rattle.text.proofs.Fields.{field-last, field-comma}
 use Rattle.numbers.specs.declared.Number.{Number}
-use Rattle.numbers.specs.Ranges.{fitted}
+use Rattle.values.specs.Ranges.{fitted}
 use Rattle.decimals.specs.Decimals.{cellIn}
 use Rattle.fields.specs.declared.Places.{Places}
 use Rattle.fields.specs.Places.{placesOf}

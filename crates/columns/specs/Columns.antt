@@ -8,7 +8,7 @@ use lib.Seq.{sets}
 use Rattle.laws.specs.Elements.{some}
 use Rattle.text.specs.Fields.{fieldAt}
 use Rattle.numbers.specs.declared.Number.{Number}
-use Rattle.numbers.specs.Ranges.{malformed, outside, fitted}
+use Rattle.values.specs.Ranges.{malformed, outside, fitted}
 use Rattle.decimals.specs.Decimals.{cellIn}
 use Rattle.refusals.specs.declared.Refusal.the-variants.{Form, ForestType, TableColumn, OutputShort}
 use Rattle.refusals.specs.declared.Verdict.{Verdict}

@@ -100,9 +100,9 @@ fn scan_cells(line: &[u8], first: usize, cells: &mut [u16]) -> Cells
     loop {
         let end = fields::end_of(line, start);
         let cell = decimals::cell(&line[start..end]);
-        malformed = malformed | numbers::is_malformed(cell);
-        over = over | numbers::is_outside(cell, 0, GREATEST_CELL);
-        keep(cells, k, numbers::value_u16(cell));
+        malformed = malformed | values::is_malformed(cell);
+        over = over | values::is_outside(cell, 0, GREATEST_CELL);
+        keep(cells, k, values::value_u16(cell));
         if line.len() <= end {
             break;
         }

@@ -9,8 +9,8 @@ use Rattle.forest.specs.declared.Named.the-variants.{Listed, Unlisted}
 use Rattle.text.specs.Fields.{split, fieldAt}
 use Rattle.numbers.specs.declared.Number.{Number}
 use Rattle.numbers.specs.Numbers.{numberIn}
-use Rattle.numbers.specs.Ranges.{outside, valueOf, fitted}
-use Rattle.numbers.proofs.Laws.{fitted-is}
+use Rattle.values.specs.Ranges.{outside, valueOf, fitted}
+use Rattle.values.proofs.Laws.{fitted-is}
 use Rattle.fields.specs.declared.Places.{Places}
 use Rattle.fields.specs.Places.{placesOf, part}
 use Rattle.fields.proofs.Laws.{field-found}
@@ -20,7 +20,8 @@ use Rattle.refusals.specs.declared.Verdict.the-variants.{Clear, Turned as Turne
 use Rattle.entries.specs.declared.Entry.{Entry}
 use Rattle.entries.specs.declared.Parsed.the-variants.{Taken, Turned}
 use Rattle.ranges.specs.Ranges.{isBare}
-use Rattle.entries.specs.Ranges.{numberAt, misdatedIf, misdated}
+use Rattle.named.specs.Types.{misdatedIf, misdated}
+use Rattle.entries.specs.Ranges.{numberAt}
 use Rattle.entries.specs.Rules.{parsed}
 
 -- the verdict w that was reached is the definition's, v

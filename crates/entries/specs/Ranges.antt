@@ -1,18 +1,15 @@
 -- The ranges that an entry's fields keep, and the numbers under which they are refused.
 use Prim.Native.Nat.{ℕ}
-use mathlib.Core.Bool.{Bool, true, false}
+use mathlib.Core.Bool.{Bool}
 use mathlib.Core.List.{List}
-use Rattle.forest.specs.declared.Forest.{Forest}
-use Rattle.forest.specs.declared.Forest.the-variants.{Bare}
 use Rattle.forest.specs.declared.Named.{Named}
-use Rattle.forest.specs.declared.Named.the-variants.{Listed, Unlisted}
 use Rattle.forest.specs.Letters.{named}
 use Rattle.text.specs.Fields.{fieldAt}
 use Rattle.numbers.specs.declared.Number.{Number}
 use Rattle.numbers.specs.Numbers.{numberIn}
-use Rattle.numbers.specs.Ranges.{outside}
+use Rattle.values.specs.Ranges.{outside}
 use Rattle.decimals.specs.Decimals.{hectaresIn}
-use Rattle.ranges.specs.Ranges.{lastArea, lastSub, firstYear, lastYear, firstPlanted, isBare}
+use Rattle.ranges.specs.Ranges.{lastArea, lastSub, firstYear, lastYear}
 
 -- the field at a place, read
 abbrev pub numberAt : List (List ℕ) → ℕ → Number
@@ -39,26 +36,3 @@ badHectares n = outside 10000 100000000 n
 -- "opening (2008 to 2199)"; "last (2008 to 2199)"; "years 2008 to 2199"
 abbrev pub badYear : Number → Bool
 badYear n = outside firstYear lastYear n
-
-abbrev pub unlisted : Named → Bool
-unlisted (Listed f) = false
-unlisted Unlisted = true
-
--- "(type not B)"
-abbrev pub unplantable : Named → Bool
-unplantable (Listed f) = isBare f
-unplantable Unlisted = true
-
-abbrev pub misdatedIf : Bool → Number → Bool
-misdatedIf true n = outside 0 0 n
-misdatedIf false n = outside firstPlanted lastYear n
-
--- "planted 1900 to 2199. Bare land is type B, planted 0; B with a year, or another type with 0, is 5."
-abbrev pub misdated : Named → Number → Bool
-misdated (Listed f) n = misdatedIf (isBare f) n
-misdated Unlisted n = misdatedIf false n
-
--- the type named, where one is
-abbrev pub forestOf : Named → Forest
-forestOf (Listed f) = f
-forestOf Unlisted = Bare

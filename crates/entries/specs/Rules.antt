@@ -6,7 +6,8 @@ use mathlib.Core.List.{List, [], _∷_}
 use lib.Dec.{eqb}
 use lib.ListN.{length}
 use Rattle.units.specs.Units.{tenthsOf}
-use Rattle.numbers.specs.Ranges.{malformed, valueOf}
+use Rattle.values.specs.Ranges.{malformed, valueOf}
+use Rattle.named.specs.Types.{unlisted, unplantable, misdated, forestOf}
 use Rattle.refusals.specs.declared.Refusal.the-variants.{Form, AreaOrSubNumber, ForestType, Hectares, YearRange}
 use Rattle.refusals.specs.declared.Verdict.{Verdict}
 use Rattle.refusals.specs.declared.Verdict.the-variants.{Clear, Turned as TurnedBy}
@@ -15,7 +16,7 @@ use Rattle.entries.specs.declared.Entry.{Entry}
 use Rattle.entries.specs.declared.Entry.the-variants.{Open, Add, Clear as Clearing, Plant, File, Withdraw}
 use Rattle.entries.specs.declared.Parsed.{Parsed}
 use Rattle.entries.specs.declared.Parsed.the-variants.{Taken, Turned}
-use Rattle.entries.specs.Ranges.{numberAt, hectaresAt, typeAt, badArea, badSub, badHectares, badYear, unlisted, unplantable, misdated, forestOf}
+use Rattle.entries.specs.Ranges.{numberAt, hectaresAt, typeAt, badArea, badSub, badHectares, badYear}
 
 -- the cases that turn a line's fields back, and the entry where none applies
 pub record Rule : Type 0 where

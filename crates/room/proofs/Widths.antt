@@ -13,8 +13,8 @@ use Rattle.text.proofs.Digits.{length-digits-step, digits-some}
 use Rattle.numbers.specs.declared.Number.{Number}
 use Rattle.numbers.specs.declared.Number.the-variants.{Value, Large, Malformed}
 use Rattle.numbers.specs.Numbers.{numberIn}
-use Rattle.numbers.specs.Ranges.{outside}
-use Rattle.numbers.proofs.Laws.{inside}
+use Rattle.values.specs.Ranges.{outside}
+use Rattle.values.proofs.Laws.{inside}
 use Rattle.numbers.proofs.RoundTrip.{canonical}
 use Rattle.refusals.specs.declared.Verdict.{Verdict}
 use Rattle.refusals.specs.declared.Verdict.the-variants.{Clear as Accepted, Turned as Refused}

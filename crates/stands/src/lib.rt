@@ -26,9 +26,9 @@ pub fn clear_entry(line: &[u8]) -> Parsed
     match v {
         Verdict::Turned(refusal) => Parsed::Turned(refusal),
         Verdict::Clear => Parsed::Taken(Entry::Clear {
-            area: numbers::value_u16(area),
-            sub: numbers::value_u8(sub),
-            year: numbers::value_u16(year),
+            area: values::value_u16(area),
+            sub: values::value_u8(sub),
+            year: values::value_u16(year),
         }),
     }
 }
@@ -49,15 +49,15 @@ pub fn plant_entry(line: &[u8]) -> Parsed
     let v = entries::weigh_form(v, year);
     let v = entries::weigh_area(v, area);
     let v = entries::weigh_sub(v, sub);
-    let v = refusals::weigh(v, entries::is_unplantable(named), Refusal::ForestType);
+    let v = refusals::weigh(v, named::is_unplantable(named), Refusal::ForestType);
     let v = entries::weigh_year(v, year);
     match v {
         Verdict::Turned(refusal) => Parsed::Turned(refusal),
         Verdict::Clear => Parsed::Taken(Entry::Plant {
-            area: numbers::value_u16(area),
-            sub: numbers::value_u8(sub),
-            forest: entries::forest_of(named),
-            year: numbers::value_u16(year),
+            area: values::value_u16(area),
+            sub: values::value_u8(sub),
+            forest: named::forest_of(named),
+            year: values::value_u16(year),
         }),
     }
 }

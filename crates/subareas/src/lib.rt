@@ -30,18 +30,18 @@ pub fn add_entry(line: &[u8]) -> Parsed
     let v = entries::weigh_form(v, planted);
     let v = entries::weigh_area(v, area);
     let v = entries::weigh_sub(v, sub);
-    let v = refusals::weigh(v, entries::is_unlisted(named), Refusal::ForestType);
-    let too_small_or_large = numbers::is_outside(hectares, LEAST_HECTARES, MOST_HECTARES);
+    let v = refusals::weigh(v, named::is_unlisted(named), Refusal::ForestType);
+    let too_small_or_large = values::is_outside(hectares, LEAST_HECTARES, MOST_HECTARES);
     let v = refusals::weigh(v, too_small_or_large, Refusal::Hectares);
-    let v = refusals::weigh(v, entries::is_misdated(named, planted), Refusal::YearRange);
+    let v = refusals::weigh(v, named::is_misdated(named, planted), Refusal::YearRange);
     match v {
         Verdict::Turned(refusal) => Parsed::Turned(refusal),
         Verdict::Clear => Parsed::Taken(Entry::Add {
-            area: numbers::value_u16(area),
-            sub: numbers::value_u8(sub),
-            land: units::rounded(numbers::value_u32(hectares)),
-            forest: entries::forest_of(named),
-            planted: numbers::value_u16(planted),
+            area: values::value_u16(area),
+            sub: values::value_u8(sub),
+            land: units::rounded(values::value_u32(hectares)),
+            forest: named::forest_of(named),
+            planted: values::value_u16(planted),
         }),
     }
 }

@@ -50,7 +50,7 @@ fn put_area(out: &mut [u8], at: usize, area: Area) -> usize
     let next = put_years(out, next, area);
     let next = put_amounts(out, next, area);
     let next = records::put_field(out, next, area.count as u64, 10);
-    records::put_subs(out, next, area)
+    sublines::put_subs(out, next, area)
 }
 
 fn put_areas(out: &mut [u8], at: usize, holding: Holding) -> usize

@@ -6,7 +6,7 @@ use native.Mathlib.Omega.{arith}
 use lib.ListN.{length, drop}
 use lib.Seq.{sets}
 use Rattle.text.specs.Fields.{split}
-use Rattle.numbers.specs.Ranges.{malformed}
+use Rattle.values.specs.Ranges.{malformed}
 use Rattle.fields.proofs.Laws.{end-inside}
 use Rattle.columns.specs.Columns.{someCell, badCell, tenthsAll, cellsFound}
 use Rattle.columns.proofs.Laws.{judge-next, judge-last, keep-next, keep-last}
