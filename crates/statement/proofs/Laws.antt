@@ -1,17 +1,28 @@
--- What a verdict makes of a statement: the holding read, or the refusal and the empty holding.
-use mathlib.Core.Path.{_≡_, sym}
-use Rattle.refusals.specs.declared.Refusal.{Refusal}
-use Rattle.refusals.specs.declared.Verdict.{Verdict}
+-- What the test of a statement makes of it: the holding read, or the refusal and the empty holding.
+use Prim.Native.Nat.{ℕ}
+use mathlib.Core.Bool.{Bool, true, false, _&&_}
+use mathlib.Core.Path.{_≡_}
+use mathlib.Core.List.{List}
+use lib.Dec.{eqb, ltb}
+use lib.ListN.{length}
+use Rattle.refusals.specs.declared.Refusal.the-variants.{CarriedStatement}
 use Rattle.refusals.specs.declared.Verdict.the-variants.{Clear, Turned}
+use Rattle.refusals.specs.Refusals.{weighed, weighAll, smallest}
 use Rattle.holding.specs.declared.Holding.{Holding}
 use Rattle.holding.specs.Holding.{emptyHolding}
-use Rattle.statement.specs.Statement.{readIf}
+use Rattle.carried.specs.Carried.{carried}
+use Rattle.reading.specs.declared.HoldingRead.{HoldingRead}
+use Rattle.statement.specs.Statement.{acceptable, readIf}
 
--- the verdict w that was reached is the definition's, v
-module _ (v w : Verdict) (e : w ≡ v) (holding : Holding) where
-  pub refused : (refusal : Refusal) (empty : Holding) → empty ≡ emptyHolding → w ≡ Turned refusal
-      → record { verdict = Turned refusal; holding = empty } ≡ readIf v holding
-  refused refusal empty h t = simp (h, sym e, t)
+abbrev pub accepts : List ℕ → HoldingRead → Bool
+accepts s read = ltb 0 (read .next) && eqb (read .next) (length s) && carried (read .holding)
 
-  pub taken : (found : Holding) → found ≡ holding → w ≡ Clear → record { verdict = Clear; holding = found } ≡ readIf v holding
-  taken found h t = simp (h, sym e, t)
+module _ (s : List ℕ) (read : HoldingRead) where
+  pub taken : accepts s read ≡ true → record { verdict = Clear; holding = read .holding } ≡ readIf (acceptable s read) (read .holding)
+  unfolding acceptable smallest weighAll weighed
+  taken e = simp e
+
+  pub refused : (empty : Holding) → empty ≡ emptyHolding → accepts s read ≡ false
+      → record { verdict = Turned CarriedStatement; holding = empty } ≡ readIf (acceptable s read) (read .holding)
+  unfolding acceptable smallest weighAll weighed
+  refused empty h e = simp (h, e)

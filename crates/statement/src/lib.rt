@@ -18,22 +18,15 @@ pub fn read_from(bytes: &[u8]) -> Read
     let next = found.next;
     let holding = found.holding;
     let kept = judging::holding(holding);
-    let v = refusals::weigh(
-        Verdict::Clear,
-        !((0 < next) & (next == bytes.len()) & kept),
-        Refusal::CarriedStatement,
-    );
-    match v {
-        Verdict::Turned(refusal) => {
-            let empty = holding::empty_holding();
-            Read {
-                verdict: Verdict::Turned(refusal),
-                holding: empty,
-            }
-        }
-        Verdict::Clear => Read {
+    if (0 < next) & (next == bytes.len()) & kept {
+        return Read {
             verdict: Verdict::Clear,
             holding,
-        },
+        };
+    }
+    let empty = holding::empty_holding();
+    Read {
+        verdict: Verdict::Turned(Refusal::CarriedStatement),
+        holding: empty,
     }
 }

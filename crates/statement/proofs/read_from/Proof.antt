@@ -1,28 +1,28 @@
--- `statement::read_from` meets its contract: the verdict is on what was read, and by it the holding is taken or not.
-use mathlib.Core.Path.{_≡_, ap}
-use Rattle.refusals.specs.Refusals.{weighAll, smallest}
+-- `statement::read_from` meets its contract: what was read is tested, and by that the holding is taken or not.
+use mathlib.Core.Path.{ap, _∙_}
 use Rattle.reading.specs.declared.HoldingRead.{HoldingRead}
-use Rattle.reading.specs.Reading.{holdingAt}
-use Rattle.statement.specs.Statement.{acceptable, readOf}
-use Rattle.statement.proofs.Laws.{refused, taken}
+use Rattle.statement.specs.Statement.{acceptable, readIf, readOf}
+use Rattle.statement.proofs.Laws.{taken, refused}
 use borrow.Author.Needs.{needs}
 use Rattle.statement.proofs.read_from.Statement.{statement}
 use Rattle.statement.proofs.read_from.Tie as tie
 
-judged : (c : tie.After-weigh) → let s = c .before .before .before .before .before .args .bytes .now in
-    c .weigh .result ≡ acceptable s (holdingAt s)
-unfolding acceptable smallest weighAll
-judged c = simp (c .weigh .ensures, c .before .holding2 .ensures, c .before .before .before .read-holding .ensures)
-
 returns : tie.Need-returns
 unfolding readOf
-returns c = let w = c .before .before .before .before in refused _ _ (judged w) _ _ _ (c .empty-holding .ensures) (c .before .before .v .given .1)
+returns c =
+    let s = c .before .before .before .before .before .args .bytes .now in
+    let read = c .before .before .before .read-holding in
+    taken s (read .result) (simp (c .before .holding2 .ensures) at (c .if1 .taken))
+    ∙ ap (λ (r : HoldingRead). readIf (acceptable s r) (r .holding)) (read .ensures)
 
 returns-2 : tie.Need-returns-2
 unfolding readOf
 returns-2 c =
-    let w = c .before .before in
-    taken _ _ (judged w) _ _ (ap (λ (r : HoldingRead). r .holding) (w .before .before .before .read-holding .ensures)) (c .enum-told .given .1)
+    let t = c .before in
+    let s = t .before .before .before .before .before .args .bytes .now in
+    let read = t .before .before .before .read-holding in
+    refused s (read .result) _ (c .empty-holding .ensures) (simp (t .before .holding2 .ensures) at (t .if1 .left))
+    ∙ ap (λ (r : HoldingRead). readIf (acceptable s r) (r .holding)) (read .ensures)
 
 pub read-from-spec : {M : Type 1} → statement M
 read-from-spec =
@@ -30,9 +30,6 @@ read-from-spec =
     (tie.spec
     (λ c κs. search needs)
     (λ c κs. search needs)
-    (λ c κs. search needs)
-    (λ c. search needs)
-    (λ c κs. search needs)
-    (λ c. search needs)
     returns
+    (λ c κs. search needs)
     returns-2)
