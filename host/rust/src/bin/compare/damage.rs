@@ -41,9 +41,9 @@ fn nudge_number(random: &mut Random, text: &mut Vec<u8>) {
     let digits = String::from_utf8_lossy(&text[start..start + length]).into_owned();
     let value: u128 = digits.parse().unwrap_or(u128::MAX / 16);
     let nudged = match random.below(12) {
-        0..=3 => (value + 1).to_string(),
+        0..=3 => value.saturating_add(1).to_string(),
         4..=6 => value.saturating_sub(1).to_string(),
-        7 => (value * 10).to_string(),
+        7 => value.saturating_mul(10).to_string(),
         8 => format!("0{digits}"),
         9 => random
             .pick(&["0", "1", "2", "17", "100", "1000", "1899", "1900", "2007", "2008", "2199", "2200", "2201"])
