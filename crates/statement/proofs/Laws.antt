@@ -1,21 +1,15 @@
 -- What the test of a statement makes of it: the holding read, or the refusal and the empty holding.
 use Prim.Native.Nat.{ℕ}
-use mathlib.Core.Bool.{Bool, true, false, _&&_}
+use mathlib.Core.Bool.{true, false}
 use mathlib.Core.Path.{_≡_}
 use mathlib.Core.List.{List}
-use lib.Dec.{eqb, ltb}
-use lib.ListN.{length}
 use Rattle.refusals.specs.declared.Refusal.the-variants.{CarriedStatement}
 use Rattle.refusals.specs.declared.Verdict.the-variants.{Clear, Turned}
 use Rattle.refusals.specs.Refusals.{weighed, weighAll, smallest}
 use Rattle.holding.specs.declared.Holding.{Holding}
 use Rattle.holding.specs.Holding.{emptyHolding}
-use Rattle.carried.specs.Carried.{carried}
 use Rattle.reading.specs.declared.HoldingRead.{HoldingRead}
-use Rattle.statement.specs.Statement.{acceptable, readIf}
-
-abbrev pub accepts : List ℕ → HoldingRead → Bool
-accepts s read = ltb 0 (read .next) && eqb (read .next) (length s) && carried (read .holding)
+use Rattle.statement.specs.Statement.{accepts, acceptable, readIf}
 
 module _ (s : List ℕ) (read : HoldingRead) where
   pub taken : accepts s read ≡ true → record { verdict = Clear; holding = read .holding } ≡ readIf (acceptable s read) (read .holding)

@@ -1,6 +1,6 @@
 -- "A reader accepts it exactly when fields keep the ranges above ..; and the bytes are the writer's."
 use Prim.Native.Nat.{ℕ}
-use mathlib.Core.Bool.{not, _&&_}
+use mathlib.Core.Bool.{Bool, not, _&&_}
 use mathlib.Core.List.{List, [], _∷_}
 use lib.Dec.{eqb, ltb}
 use lib.ListN.{length}
@@ -17,8 +17,11 @@ use Rattle.statement.specs.declared.Read.{Read}
 
 -- the bytes were read to their end, and the holding is one that a statement carries; that "the bytes are the writer's" then is
 -- `accepts-that` (trips)
+abbrev pub accepts : List ℕ → HoldingRead → Bool
+accepts s read = ltb 0 (read .next) && eqb (read .next) (length s) && carried (read .holding)
+
 unfoldable pub acceptable : List ℕ → HoldingRead → Verdict
-acceptable s read = smallest (not (ltb 0 (read .next) && eqb (read .next) (length s) && carried (read .holding)) ⇒ CarriedStatement ∷ [])
+acceptable s read = smallest (not (accepts s read) ⇒ CarriedStatement ∷ [])
 
 abbrev pub readIf : Verdict → Holding → Read
 readIf Clear holding = record { verdict = Clear; holding = holding }

@@ -17,7 +17,8 @@ use Rattle.forest.specs.declared.Forest.the-variants.{Bare}
 use Rattle.groups.specs.declared.Group.{Group}
 use Rattle.groups.specs.Sums.{ofType}
 use Rattle.trees.specs.declared.Gathered.{Gathered}
-use Rattle.trees.specs.Gathering.{noGroup, noneGathered, gathering}
+use Rattle.predominance.specs.Predominance.{noGroup}
+use Rattle.trees.specs.Gathering.{noneGathered, gathering}
 use Rattle.trees.specs.Hectares.{bareIn, cases, answerOf, heldOf, hectareOf}
 
 or-true : (a : Bool) → (a || true) ≡ true

@@ -5,11 +5,8 @@ use lib.ListN.{replicate, set}
 use Rattle.forest.specs.declared.Forest.the-variants.{Bare}
 use Rattle.groups.specs.declared.Group.{Group}
 use Rattle.groups.specs.Sums.{ofType}
+use Rattle.predominance.specs.Predominance.{noGroup}
 use Rattle.trees.specs.declared.Gathered.{Gathered}
-
--- what stands at a place that no group has taken
-abbrev pub noGroup : Group
-noGroup = record { species = 0; forest = Bare; age = 0; «basal_area» = 0 }
 
 unfoldable pub noneGathered : Gathered
 noneGathered = record { groups = replicate 64 noGroup; bare = false }

@@ -52,7 +52,8 @@ use Rattle.groups.proofs.Group as G
 use Rattle.groups.proofs.Group.Laws as G′
 use Rattle.trees.specs.declared.Gathered.{Gathered}
 use Rattle.trees.specs.declared.Hectare.{Hectare}
-use Rattle.trees.specs.Gathering.{noGroup, noneGathered, gathering}
+use Rattle.predominance.specs.Predominance.{noGroup}
+use Rattle.trees.specs.Gathering.{noneGathered, gathering}
 use Rattle.trees.specs.Hectares.{heldOf, hectareOf}
 use Rattle.trees.proofs.Gathering.{Going, going-start, going-more, going-end}
 use Rattle.trees.proofs.Gathered as F
