@@ -26,7 +26,7 @@ use Rattle.holding.specs.declared.Found.{Found}
 use Rattle.holding.specs.declared.Found.the-variants.{At, Nowhere}
 use Rattle.holding.specs.Holding.{areasOf, emptyArea}
 use Rattle.holding.specs.Find.{findArea}
-use Rattle.standing.specs.Standing.{known, areaAt, balanceOf}
+use Rattle.standing.specs.Standing.{known, areaAt, balanceOf, lookedUp}
 use Rattle.outcomes.specs.declared.Report.{Report}
 use Rattle.outcomes.specs.declared.Report.the-variants.{Nothing, Withdrawal}
 use Rattle.outcomes.specs.declared.Outcome.{Outcome}
@@ -99,7 +99,7 @@ module _ (own : List ℕ) (n : ℕ) (holding : Holding) (rows : List Row) (repor
         go (some area) e none u k = absurd k
         go (some area) e (some row) u k = record { row = row; listed = u; alike = rw (let s : areaAt holding (At i) ≡ area = cc in s) k }
 
-    filed-tells : (m last : ℕ) → Tells (filed own schedule6 holding m last) (cond (eqb m n) (changeBy own last (under rowNumber n rows)) []) (eqb m n)
+    filed-tells : (m last : ℕ) → Tells (filed own schedule6 (lookedUp holding m) m last) (cond (eqb m n) (changeBy own last (under rowNumber n rows)) []) (eqb m n)
     unfolding filed returnOf fileCases areaCases NoneApplies answered reportedWith
     filed-tells m last = go (smallest (fileCases m last found area)) refl
       where

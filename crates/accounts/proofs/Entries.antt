@@ -24,7 +24,7 @@ use Rattle.holding.specs.declared.Found.{Found}
 use Rattle.holding.specs.declared.Found.the-variants.{At, Nowhere}
 use Rattle.holding.specs.Holding.{mostAreas, mostSubs, emptyArea, openedArea}
 use Rattle.holding.specs.Find.{findArea, findSub}
-use Rattle.standing.specs.Standing.{known, areaAt, withSub, balanceOf}
+use Rattle.standing.specs.Standing.{known, areaAt, withSub, balanceOf, lookedUp}
 use Rattle.outcomes.specs.declared.Report.{Report}
 use Rattle.outcomes.specs.declared.Report.the-variants.{Nothing, Withdrawal}
 use Rattle.outcomes.specs.declared.Outcome.{Outcome}
@@ -93,7 +93,7 @@ module _ (own : List ℕ) (n : ℕ) (holding : Holding) (rows : List Row) (repor
         go (Turned refusal) v = turned-keeps refusal (change rowNumber m f rows)
         go Accepted v = let h = none-applies cs v in at (findArea holding m) refl h (stands h) number (alike h)
 
-    added-keeps : (sub : Sub) → Keeps (Adding.added own schedule6 holding m sub) (change rowNumber m (Ledger.added own sub) rows)
+    added-keeps : (sub : Sub) → Keeps (Adding.added own schedule6 (lookedUp holding m) m sub) (change rowNumber m (Ledger.added own sub) rows)
     unfolding Adding.added addedArea addCases areaCases NoneApplies found area reportedWith
     added-keeps sub =
         area-keeps (addCases m sub found area) (addedArea own schedule6 area sub) (Ledger.added own sub) Nothing
@@ -102,7 +102,7 @@ module _ (own : List ℕ) (n : ℕ) (holding : Holding) (rows : List Row) (repor
         (λ d. refl)
 
     cleared-keeps : (sub year : ℕ)
-        → Keeps (Clearing.cleared holding m sub year) (change rowNumber m (withSubs (change subNumber sub (Ledger.cleared year))) rows)
+        → Keeps (Clearing.cleared (lookedUp holding m) m sub year) (change rowNumber m (withSubs (change subNumber sub (Ledger.cleared year))) rows)
     unfolding Clearing.cleared clearedArea clearedSub clearCases areaCases withSub NoneApplies found area reportedWith
     cleared-keeps sub year =
         area-keeps (clearCases m sub year found area) (clearedArea area sub year)
@@ -114,7 +114,7 @@ module _ (own : List ℕ) (n : ℕ) (holding : Holding) (rows : List Row) (repor
         (λ d. refl)
 
     planted-keeps : (sub : ℕ) (forest : Forest) (year : ℕ)
-        → Keeps (Planting.planted holding m sub forest year) (change rowNumber m (withSubs (change subNumber sub (Ledger.planted forest year))) rows)
+        → Keeps (Planting.planted (lookedUp holding m) m sub forest year) (change rowNumber m (withSubs (change subNumber sub (Ledger.planted forest year))) rows)
     unfolding Planting.planted plantedArea plantedSub plantCases areaCases withSub NoneApplies found area reportedWith
     planted-keeps sub forest year =
         area-keeps (plantCases m sub forest year found area) (plantedArea area sub forest year)
@@ -125,7 +125,7 @@ module _ (own : List ℕ) (n : ℕ) (holding : Holding) (rows : List Row) (repor
         (not-false (known (findSub area sub)) (h .1 .1 .1 .1 .1 .1 .0)))
         (λ d. refl)
 
-    filed-keeps : (last : ℕ) → Keeps (Filing.filed own schedule6 holding m last) (change rowNumber m (Ledger.returned own last) rows)
+    filed-keeps : (last : ℕ) → Keeps (Filing.filed own schedule6 (lookedUp holding m) m last) (change rowNumber m (Ledger.returned own last) rows)
     unfolding Filing.filed filedArea returnOf fileCases areaCases NoneApplies found area reportedWith
     filed-keeps last =
         area-keeps (fileCases m last found area) (filedArea own schedule6 area last) (Ledger.returned own last) (returnOf own schedule6 area m last)
@@ -133,7 +133,7 @@ module _ (own : List ℕ) (n : ℕ) (holding : Holding) (rows : List Row) (repor
         (λ h e row k. rw (eq-eqb m n e) (returned-alike own area reported row k last (sym (k .shown .withdrawn) ∙ h .1 .1 .1 .1 .0)))
         (λ d. rw (ne-eqb m n d))
 
-    withdrawn-keeps : Keeps (Withdrawing.withdrawn holding m) (change rowNumber m withdrawnRow rows)
+    withdrawn-keeps : Keeps (Withdrawing.withdrawn (lookedUp holding m) m) (change rowNumber m withdrawnRow rows)
     unfolding Withdrawing.withdrawn withdrawnArea withdrawCases areaCases NoneApplies found area reportedWith
     withdrawn-keeps =
         area-keeps (withdrawCases m found area) (withdrawnArea area) withdrawnRow (Withdrawal m (balanceOf area))
@@ -141,18 +141,18 @@ module _ (own : List ℕ) (n : ℕ) (holding : Holding) (rows : List Row) (repor
         (λ h e row k. rw (eq-eqb m n e) (withdrawn-alike own area reported row k))
         (λ d. rw (ne-eqb m n d))
 
-    opened-keeps : (year : ℕ) → Keeps (Opening.opened holding m year) (rows ++ (Ledger.opened m year ∷ []))
+    opened-keeps : (year : ℕ) → Keeps (Opening.opened (lookedUp holding m) m year) (rows ++ (Ledger.opened m year ∷ []))
     unfolding Opening.opened openCases answered placed NoneApplies reportedWith
-    opened-keeps year = go (smallest (openCases holding m year)) refl
+    opened-keeps year = go (smallest (openCases (lookedUp holding m) m year)) refl
       where
-        go : (v : Verdict) → smallest (openCases holding m year) ≡ v
+        go : (v : Verdict) → smallest (openCases (lookedUp holding m) m year) ≡ v
             → Keeps (answered v (accepted Nothing (At (holding .count)) (holding .count + 1) (openedArea m year))) (rows ++ (Ledger.opened m year ∷ []))
         go (Turned refusal) v = agreed
         go Accepted v =
-            let h = none-applies (openCases holding m year) v in
+            let h = none-applies (openCases (lookedUp holding m) m year) v in
             opened-agreed n holding rows reported agreed m year (leb-false mostAreas (holding .count) (h .1 .1 .1 .1 .0))
 
-  column-keeps : Keeps (columnTaken holding) rows
+  column-keeps : Keeps (columnTaken (holding .count)) rows
   unfolding columnTaken answered placed reportedWith
   column-keeps = go (smallest (leb 1 (holding .count) ⇒ TableAfterArea ∷ []))
     where

@@ -22,7 +22,7 @@ use Rattle.holding.specs.declared.Found.{Found}
 use Rattle.holding.specs.declared.Found.the-variants.{At, Nowhere}
 use Rattle.holding.specs.Holding.{areasOf, openedArea, emptyHolding}
 use Rattle.holding.specs.Find.{findArea}
-use Rattle.standing.specs.Standing.{known}
+use Rattle.standing.specs.Standing.{known, lookedUp}
 use Rattle.outcomes.specs.declared.Report.the-variants.{Nothing}
 use Rattle.outcomes.specs.declared.Outcome.{Outcome}
 use Rattle.outcomes.specs.Outcomes.{accepted, answered, turnedBack, placed}
@@ -49,14 +49,14 @@ module _ (own : List ℕ) where
       nowhere (At i) e = let z : _≡_ {A = ℕ} 0 1 = cc in absurd (omega arith)
       nowhere Nowhere e = refl
 
-      judged : (v : Verdict) → smallest (openCases holding m year) ≡ v
+      judged : (v : Verdict) → smallest (openCases (lookedUp holding m) m year) ≡ v
           → isAccepted (answered v (accepted Nothing (At (holding .count)) (holding .count + 1) (openedArea m year)) .verdict) ≡ true
           → findArea holding m ≡ Nowhere
       judged (Turned refusal) v e = let z : _≡_ {A = ℕ} 0 1 = cc in absurd (omega arith)
-      judged Accepted v e = nowhere (findArea holding m) (none-applies (openCases holding m year) v .1 .1 .1 .0)
+      judged Accepted v e = nowhere (findArea holding m) (none-applies (openCases (lookedUp holding m) m year) v .1 .1 .1 .0)
 
-      go : (t : Bool) → isAccepted (cond t (Opening.opened holding m year) (turnedBack TableColumn) .verdict) ≡ true → findArea holding m ≡ Nowhere
-      go true e = judged (smallest (openCases holding m year)) refl e
+      go : (t : Bool) → isAccepted (cond t (Opening.opened (lookedUp holding m) m year) (turnedBack TableColumn) .verdict) ≡ true → findArea holding m ≡ Nowhere
+      go true e = judged (smallest (openCases (lookedUp holding m) m year)) refl e
       go false e = let z : _≡_ {A = ℕ} 0 1 = cc in absurd (omega arith)
 
   module _ (holding : Holding) (rows : List Row) (reported : ℕ → Reported) (agreed : (n : ℕ) → Agreed n holding rows (reported n)) where

@@ -12,10 +12,10 @@ use Rattle.ranges.specs.Ranges.{isArea, isSub, isLand, isPlanted}
 use Rattle.holding.specs.declared.Sub.{Sub}
 use Rattle.holding.specs.declared.Area.{Area}
 use Rattle.holding.specs.declared.Found.{Found}
-use Rattle.holding.specs.declared.Holding.{Holding}
 use Rattle.holding.specs.Holding.{mostSubs, noResidue}
-use Rattle.holding.specs.Find.{findArea, findSub}
-use Rattle.standing.specs.Standing.{known, areaAt}
+use Rattle.holding.specs.Find.{findSub}
+use Rattle.standing.specs.declared.Looked.{Looked}
+use Rattle.standing.specs.Standing.{known}
 use Rattle.outcomes.specs.declared.Outcome.{Outcome}
 use Rattle.outcomes.specs.declared.Report.the-variants.{Nothing}
 use Rattle.outcomes.specs.Outcomes.{accepted, answered, areaCases}
@@ -53,9 +53,8 @@ addedArea own default area sub = record {
   subs = set (area .subs) (area .count) sub;
 }
 
-unfoldable pub added : List ℕ → List ℕ → Holding → ℕ → Sub → Outcome
-added own default holding number sub =
-    let found = findArea holding number in
-    let area = areaAt holding found in
-    answered (smallest (addCases number sub found area))
-    (accepted Nothing found (holding .count) (addedArea own default area sub))
+unfoldable pub added : List ℕ → List ℕ → Looked → ℕ → Sub → Outcome
+added own default looked number sub =
+    let area = looked .area in
+    answered (smallest (addCases number sub (looked .found) area))
+    (accepted Nothing (looked .found) (looked .count) (addedArea own default area sub))

@@ -7,13 +7,13 @@ ghost use Rattle.adding.specs.Adding.{newSub, addCases, addedArea, added
 use forest::Forest;
 use holding::Area;
 use holding::Found;
-use holding::Holding;
 use holding::Residue;
 use holding::Sub;
 use outcomes::Outcome;
 use outcomes::Report;
 use refusals::Refusal;
 use refusals::Verdict;
+use standing::Looked;
 use units::Kilograms;
 use units::Tenths;
 
@@ -56,17 +56,11 @@ fn added_area<'a>(own: &'a [u16], default: &'a [u16], area: Area, sub: Sub) -> A
     after
 }
 
-fn add_sub<'a>(
-    own: &'a [u16],
-    default: &'a [u16],
-    holding: Holding,
-    number: u16,
-    sub: Sub,
-) -> Outcome
-    ensures { λ r. ⌜ r ≡ added (now (own .entry)) (now (default .entry)) holding number sub ⌝ }
+fn add_sub<'a>(own: &'a [u16], default: &'a [u16], looked: Looked, number: u16, sub: Sub) -> Outcome
+    ensures { λ r. ⌜ r ≡ added (now (own .entry)) (now (default .entry)) looked number sub ⌝ }
 {
-    let found = holding::find_area(holding, number);
-    let area = standing::area_at(holding, found);
+    let found = looked.found;
+    let area = looked.area;
     let v = verdict(number, sub, found, area);
     match v {
         Verdict::Turned(refusal) => outcomes::turned(refusal),
@@ -74,7 +68,7 @@ fn add_sub<'a>(
             verdict: Verdict::Clear,
             report: Report::Nothing,
             place: found,
-            count: holding.count,
+            count: looked.count,
             area: added_area(own, default, area, sub),
         },
     }
@@ -84,14 +78,14 @@ fn add_sub<'a>(
 pub fn add<'a>(
     own: &'a [u16],
     default: &'a [u16],
-    holding: Holding,
+    looked: Looked,
     number: u16,
     sub: u8,
     land: Tenths,
     forest: Forest,
     planted: u16,
 ) -> Outcome
-    ensures { λ r. ⌜ r ≡ added (now (own .entry)) (now (default .entry)) holding number (newSub sub land forest planted) ⌝ }
+    ensures { λ r. ⌜ r ≡ added (now (own .entry)) (now (default .entry)) looked number (newSub sub land forest planted) ⌝ }
 {
     let residue = Residue {
         forest: Forest::Bare,
@@ -105,5 +99,5 @@ pub fn add<'a>(
         planted,
         residue,
     };
-    add_sub(own, default, holding, number, entered)
+    add_sub(own, default, looked, number, entered)
 }

@@ -10,9 +10,9 @@ use Rattle.ranges.specs.Ranges.{isBare, isArea, isSub, isYear}
 use Rattle.holding.specs.declared.Sub.{Sub}
 use Rattle.holding.specs.declared.Area.{Area}
 use Rattle.holding.specs.declared.Found.{Found}
-use Rattle.holding.specs.declared.Holding.{Holding}
-use Rattle.holding.specs.Find.{findArea, findSub}
-use Rattle.standing.specs.Standing.{known, areaAt, subAt, withSub}
+use Rattle.holding.specs.Find.{findSub}
+use Rattle.standing.specs.declared.Looked.{Looked}
+use Rattle.standing.specs.Standing.{known, subAt, withSub}
 use Rattle.outcomes.specs.declared.Outcome.{Outcome}
 use Rattle.outcomes.specs.declared.Report.the-variants.{Nothing}
 use Rattle.outcomes.specs.Outcomes.{accepted, answered, areaCases}
@@ -42,8 +42,8 @@ clearedSub sub year = record {
 unfoldable pub clearedArea : Area → ℕ → ℕ → Area
 clearedArea area sub year = let stand = findSub area sub in withSub area stand (clearedSub (subAt area stand) year) year
 
-unfoldable pub cleared : Holding → ℕ → ℕ → ℕ → Outcome
-cleared holding number sub year =
-    let found = findArea holding number in
-    let area = areaAt holding found in
-    answered (smallest (clearCases number sub year found area)) (accepted Nothing found (holding .count) (clearedArea area sub year))
+unfoldable pub cleared : Looked → ℕ → ℕ → ℕ → Outcome
+cleared looked number sub year =
+    let area = looked .area in
+    answered (smallest (clearCases number sub year (looked .found) area))
+    (accepted Nothing (looked .found) (looked .count) (clearedArea area sub year))

@@ -5,13 +5,13 @@ ghost use Rattle.clearing.specs.Clearing.{clearCases, clearedSub, cleare
 use forest::Forest;
 use holding::Area;
 use holding::Found;
-use holding::Holding;
 use holding::Residue;
 use holding::Sub;
 use outcomes::Outcome;
 use outcomes::Report;
 use refusals::Refusal;
 use refusals::Verdict;
+use standing::Looked;
 
 fn verdict(number: u16, sub: u8, year: u16, found: Found, area: Area) -> Verdict
     ensures { λ r. ⌜ r ≡ smallest (clearCases number sub year found area) ⌝ }
@@ -57,11 +57,11 @@ fn cleared_area(area: Area, sub: u8, year: u16) -> Area
     standing::with_sub(area, stand, cleared_sub(before, year), year)
 }
 
-pub fn clear(holding: Holding, number: u16, sub: u8, year: u16) -> Outcome
-    ensures { λ r. ⌜ r ≡ cleared holding number sub year ⌝ }
+pub fn clear(looked: Looked, number: u16, sub: u8, year: u16) -> Outcome
+    ensures { λ r. ⌜ r ≡ cleared looked number sub year ⌝ }
 {
-    let found = holding::find_area(holding, number);
-    let area = standing::area_at(holding, found);
+    let found = looked.found;
+    let area = looked.area;
     let v = verdict(number, sub, year, found, area);
     match v {
         Verdict::Turned(refusal) => outcomes::turned(refusal),
@@ -69,7 +69,7 @@ pub fn clear(holding: Holding, number: u16, sub: u8, year: u16) -> Outcome
             verdict: Verdict::Clear,
             report: Report::Nothing,
             place: found,
-            count: holding.count,
+            count: looked.count,
             area: cleared_area(area, sub, year),
         },
     }

@@ -11,9 +11,8 @@ use Rattle.units.specs.Tonnes.{changeBetween}
 use Rattle.ranges.specs.Ranges.{isArea, isYear}
 use Rattle.holding.specs.declared.Area.{Area}
 use Rattle.holding.specs.declared.Found.{Found}
-use Rattle.holding.specs.declared.Holding.{Holding}
-use Rattle.holding.specs.Find.{findArea}
-use Rattle.standing.specs.Standing.{areaAt, balanceOf}
+use Rattle.standing.specs.declared.Looked.{Looked}
+use Rattle.standing.specs.Standing.{balanceOf}
 use Rattle.outcomes.specs.declared.Report.{Report}
 use Rattle.outcomes.specs.declared.Report.the-variants.{Return}
 use Rattle.outcomes.specs.declared.Outcome.{Outcome}
@@ -69,9 +68,8 @@ returnOf own default area number last =
 abbrev pub settledOf : List ℕ → List ℕ → Area → ℕ → ℕ → Settled
 settledOf own default area number last = record { report = returnOf own default area number last; area = filedArea own default area last }
 
-unfoldable pub filed : List ℕ → List ℕ → Holding → ℕ → ℕ → Outcome
-filed own default holding number last =
-    let found = findArea holding number in
-    let area = areaAt holding found in
-    answered (smallest (fileCases number last found area))
-    (accepted (returnOf own default area number last) found (holding .count) (filedArea own default area last))
+unfoldable pub filed : List ℕ → List ℕ → Looked → ℕ → ℕ → Outcome
+filed own default looked number last =
+    let area = looked .area in
+    answered (smallest (fileCases number last (looked .found) area))
+    (accepted (returnOf own default area number last) (looked .found) (looked .count) (filedArea own default area last))

@@ -8,11 +8,11 @@ ghost use mathlib.Core.Bool.{true};
 ghost use Rattle.filing.specs.Filing.{fileCases, receivedOf, dueOf, settledOf, filed};
 use holding::Area;
 use holding::Found;
-use holding::Holding;
 use outcomes::Outcome;
 use outcomes::Report;
 use refusals::Refusal;
 use refusals::Verdict;
+use standing::Looked;
 use units::Change;
 
 fn verdict(number: u16, last: u16, found: Found, area: Area) -> Verdict
@@ -95,14 +95,14 @@ fn settle<'a>(own: &'a [u16], default: &'a [u16], area: Area, number: u16, last:
 pub fn file<'a>(
     own: &'a [u16],
     default: &'a [u16],
-    holding: Holding,
+    looked: Looked,
     number: u16,
     last: u16,
 ) -> Outcome
-    ensures { λ r. ⌜ r ≡ filed (now (own .entry)) (now (default .entry)) holding number last ⌝ }
+    ensures { λ r. ⌜ r ≡ filed (now (own .entry)) (now (default .entry)) looked number last ⌝ }
 {
-    let found = holding::find_area(holding, number);
-    let area = standing::area_at(holding, found);
+    let found = looked.found;
+    let area = looked.area;
     let v = verdict(number, last, found, area);
     match v {
         Verdict::Turned(refusal) => outcomes::turned(refusal),
@@ -114,7 +114,7 @@ pub fn file<'a>(
                 verdict: Verdict::Clear,
                 report,
                 place: found,
-                count: holding.count,
+                count: looked.count,
                 area: after,
             }
         }

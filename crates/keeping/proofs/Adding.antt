@@ -20,7 +20,7 @@ use Rattle.holding.specs.declared.Found.{Found}
 use Rattle.holding.specs.declared.Holding.{Holding}
 use Rattle.holding.specs.Holding.{mostSubs, noResidue}
 use Rattle.holding.specs.Find.{findSub}
-use Rattle.standing.specs.Standing.{known}
+use Rattle.standing.specs.Standing.{known, lookedUp}
 use Rattle.carried.specs.Carried.{stockForSub}
 use Rattle.outcomes.specs.Outcomes.{areaCases, placed}
 use Rattle.stocks.specs.Stocks.{subStock}
@@ -76,6 +76,6 @@ module _ (own : List ℕ) (table : isTable own ≡ true) where
           keeps = added-area area (newSub sub land forest planted) (out 6) room good;
         }
 
-    pub added-keeps : (holding : Holding) → AreasKept holding → AreasKept (placed holding (added own schedule6 holding number (newSub sub land forest planted)))
+    pub added-keeps : (holding : Holding) → AreasKept holding → AreasKept (placed holding (added own schedule6 (lookedUp holding number) number (newSub sub land forest planted)))
     unfolding added
     added-keeps holding kept = change-keeps holding kept number _ _ _ (added-changes _ _)

@@ -12,7 +12,7 @@ use Rattle.holding.specs.declared.Area.{Area}
 use Rattle.holding.specs.declared.Found.{Found}
 use Rattle.holding.specs.declared.Holding.{Holding}
 use Rattle.holding.specs.Find.{findSub}
-use Rattle.standing.specs.Standing.{known, subAt, withSub}
+use Rattle.standing.specs.Standing.{known, subAt, withSub, lookedUp}
 use Rattle.outcomes.specs.Outcomes.{areaCases, placed}
 use Rattle.clearing.specs.Clearing.{clearCases, clearedSub, clearedArea, cleared}
 use Rattle.keeping.proofs.Tests.{clash}
@@ -59,6 +59,6 @@ cleared-changes number sub year found area e =
       });
     }
 
-pub cleared-keeps : (holding : Holding) (number sub year : ℕ) → AreasKept holding → AreasKept (placed holding (cleared holding number sub year))
+pub cleared-keeps : (holding : Holding) (number sub year : ℕ) → AreasKept holding → AreasKept (placed holding (cleared (lookedUp holding number) number sub year))
 unfolding cleared
 cleared-keeps holding number sub year kept = change-keeps holding kept number _ _ _ (cleared-changes number sub year _ _)

@@ -16,7 +16,7 @@ use Rattle.tables.specs.Participant.{isTable}
 use Rattle.holding.specs.declared.Area.{Area}
 use Rattle.holding.specs.declared.Found.{Found}
 use Rattle.holding.specs.declared.Holding.{Holding}
-use Rattle.standing.specs.Standing.{known, balanceOf}
+use Rattle.standing.specs.Standing.{known, balanceOf, lookedUp}
 use Rattle.carried.specs.Carried.{receivedForReturn}
 use Rattle.outcomes.specs.Outcomes.{areaCases, placed}
 use Rattle.filing.specs.Filing.{fileCases, receivedOf, dueOf, changeOf, filedArea, filed}
@@ -80,6 +80,6 @@ filed-changes own table number last found area e =
     }
 
 pub filed-keeps : (own : List ℕ) → isTable own ≡ true → (holding : Holding) (number last : ℕ) → AreasKept holding
-    → AreasKept (placed holding (filed own schedule6 holding number last))
+    → AreasKept (placed holding (filed own schedule6 (lookedUp holding number) number last))
 unfolding filed
 filed-keeps own table holding number last kept = change-keeps holding kept number _ _ _ (filed-changes own table number last _ _)

@@ -11,6 +11,7 @@ use Rattle.holding.specs.declared.Holding.{Holding}
 use Rattle.holding.specs.declared.Found.the-variants.{At}
 use Rattle.holding.specs.Holding.{openedArea}
 use Rattle.holding.specs.Find.{findArea}
+use Rattle.standing.specs.Standing.{lookedUp}
 use Rattle.outcomes.specs.declared.Report.the-variants.{Nothing}
 use Rattle.outcomes.specs.Outcomes.{accepted, placed}
 use Rattle.opening.specs.Opening.{openCases, opened}
@@ -38,10 +39,10 @@ opened-area number opening n y = record {
   subs = record { room = omega arith; tidy = record { long = refl; unused = refl }; each = tt; apart = refl };
 }
 
-pub opened-keeps : (holding : Holding) (number opening : ℕ) → AreasKept holding → AreasKept (placed holding (opened holding number opening))
+pub opened-keeps : (holding : Holding) (number opening : ℕ) → AreasKept holding → AreasKept (placed holding (opened (lookedUp holding number) number opening))
 unfolding opened placed openCases findArea
 opened-keeps holding number opening kept =
-    answer-has holding (accepted Nothing (At (holding .count)) _ (openedArea number opening)) AreasKept (smallest (openCases holding number opening)) kept (λ e.
-    let out = ruled-out (openCases holding number opening) e in
+    answer-has holding (accepted Nothing (At (holding .count)) _ (openedArea number opening)) AreasKept (smallest (openCases (lookedUp holding number) number opening)) kept (λ e.
+    let out = ruled-out (openCases (lookedUp holding number) number opening) e in
     register-more kept (openedArea number opening) (unknown (findArea holding number) (out 3)) (leb-false _ _ (out 4))
     (opened-area number opening (not-false (isArea number) (out 0)) (not-false (isYear opening) (out 1))))

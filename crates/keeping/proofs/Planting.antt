@@ -13,7 +13,7 @@ use Rattle.holding.specs.declared.Area.{Area}
 use Rattle.holding.specs.declared.Found.{Found}
 use Rattle.holding.specs.declared.Holding.{Holding}
 use Rattle.holding.specs.Find.{findSub}
-use Rattle.standing.specs.Standing.{known, subAt, withSub}
+use Rattle.standing.specs.Standing.{known, subAt, withSub, lookedUp}
 use Rattle.outcomes.specs.Outcomes.{areaCases, placed}
 use Rattle.planting.specs.Planting.{plantCases, plantedSub, plantedArea, planted}
 use Rattle.keeping.proofs.Within.{year-within, planted-so, not-before}
@@ -57,6 +57,6 @@ planted-changes number sub forest year found area e =
     }
 
 pub planted-keeps : (holding : Holding) (number sub : ℕ) (forest : Forest) (year : ℕ) → AreasKept holding
-    → AreasKept (placed holding (planted holding number sub forest year))
+    → AreasKept (placed holding (planted (lookedUp holding number) number sub forest year))
 unfolding planted
 planted-keeps holding number sub forest year kept = change-keeps holding kept number _ _ _ (planted-changes number sub forest year _ _)

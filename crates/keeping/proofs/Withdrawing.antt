@@ -8,7 +8,7 @@ use Rattle.refusals.specs.Refusals.{smallest}
 use Rattle.holding.specs.declared.Area.{Area}
 use Rattle.holding.specs.declared.Found.{Found}
 use Rattle.holding.specs.declared.Holding.{Holding}
-use Rattle.standing.specs.Standing.{known}
+use Rattle.standing.specs.Standing.{known, lookedUp}
 use Rattle.outcomes.specs.Outcomes.{areaCases, placed}
 use Rattle.withdrawing.specs.Withdrawing.{withdrawCases, withdrawnArea, withdrawn}
 use Rattle.keeping.proofs.Areas.{AreaKept, AreasKept}
@@ -35,6 +35,6 @@ withdrawn-changes number found area e =
     let out = ruled-out (withdrawCases number found area) e in
     record { stands = not-false (known found) (out 2); number = refl; keeps = withdrawn-area area }
 
-pub withdrawn-keeps : (holding : Holding) (number : ℕ) → AreasKept holding → AreasKept (placed holding (withdrawn holding number))
+pub withdrawn-keeps : (holding : Holding) (number : ℕ) → AreasKept holding → AreasKept (placed holding (withdrawn (lookedUp holding number) number))
 unfolding withdrawn
 withdrawn-keeps holding number kept = change-keeps holding kept number _ _ _ (withdrawn-changes number _ _)

@@ -6,27 +6,25 @@ use lib.Dec.{leb}
 use Rattle.refusals.specs.declared.Refusal.the-variants.{AreaOrSubNumber, YearRange, CarriedStatement, AreaUsed, AreasFull}
 use Rattle.refusals.specs.Refusals.{Case, _⇒_, smallest}
 use Rattle.ranges.specs.Ranges.{isArea, isYear}
-use Rattle.holding.specs.declared.Holding.{Holding}
 use Rattle.holding.specs.declared.Found.the-variants.{At}
 use Rattle.holding.specs.Holding.{mostAreas, openedArea}
-use Rattle.holding.specs.Find.{findArea}
-use Rattle.standing.specs.Standing.{known, areaAt}
+use Rattle.standing.specs.declared.Looked.{Looked}
+use Rattle.standing.specs.Standing.{known}
 use Rattle.outcomes.specs.declared.Outcome.{Outcome}
 use Rattle.outcomes.specs.declared.Report.the-variants.{Nothing}
 use Rattle.outcomes.specs.Outcomes.{accepted, answered, uncarried}
 
 -- "21 area already used"; "24 sixteen areas stand"
-unfoldable pub openCases : Holding → ℕ → ℕ → List Case
-openCases holding number opening =
-    let found = findArea holding number in
+unfoldable pub openCases : Looked → ℕ → ℕ → List Case
+openCases looked number opening =
     not (isArea number) ⇒ AreaOrSubNumber
     ∷ not (isYear opening) ⇒ YearRange
-    ∷ uncarried found (areaAt holding found) ⇒ CarriedStatement
-    ∷ known found ⇒ AreaUsed
-    ∷ leb mostAreas (holding .count) ⇒ AreasFull
+    ∷ uncarried (looked .found) (looked .area) ⇒ CarriedStatement
+    ∷ known (looked .found) ⇒ AreaUsed
+    ∷ leb mostAreas (looked .count) ⇒ AreasFull
     ∷ []
 
-unfoldable pub opened : Holding → ℕ → ℕ → Outcome
-opened holding number opening =
-    answered (smallest (openCases holding number opening))
-    (accepted Nothing (At (holding .count)) (holding .count + 1) (openedArea number opening))
+unfoldable pub opened : Looked → ℕ → ℕ → Outcome
+opened looked number opening =
+    answered (smallest (openCases looked number opening))
+    (accepted Nothing (At (looked .count)) (looked .count + 1) (openedArea number opening))

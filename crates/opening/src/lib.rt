@@ -3,17 +3,17 @@ ghost use mathlib.Core.Path.{_≡_};
 ghost use Rattle.refusals.specs.Refusals.{smallest};
 ghost use Rattle.opening.specs.Opening.{openCases, opened};
 use holding::Found;
-use holding::Holding;
 use outcomes::Outcome;
 use outcomes::Report;
 use refusals::Refusal;
 use refusals::Verdict;
+use standing::Looked;
 
-fn verdict(holding: Holding, number: u16, opening: u16) -> Verdict
-    ensures { λ r. ⌜ r ≡ smallest (openCases holding number opening) ⌝ }
+fn verdict(looked: Looked, number: u16, opening: u16) -> Verdict
+    ensures { λ r. ⌜ r ≡ smallest (openCases looked number opening) ⌝ }
 {
-    let found = holding::find_area(holding, number);
-    let area = standing::area_at(holding, found);
+    let found = looked.found;
+    let area = looked.area;
     let v = refusals::weigh(
         Verdict::Clear,
         !ranges::is_area(number),
@@ -22,17 +22,17 @@ fn verdict(holding: Holding, number: u16, opening: u16) -> Verdict
     let v = refusals::weigh(v, !ranges::is_year(opening), Refusal::YearRange);
     let v = outcomes::weigh_carried(v, found, area);
     let v = refusals::weigh(v, standing::is_known(found), Refusal::AreaUsed);
-    refusals::weigh(v, 16 <= holding.count, Refusal::AreasFull)
+    refusals::weigh(v, 16 <= looked.count, Refusal::AreasFull)
 }
 
-pub fn open(holding: Holding, number: u16, opening: u16) -> Outcome
-    ensures { λ r. ⌜ r ≡ opened holding number opening ⌝ }
+pub fn open(looked: Looked, number: u16, opening: u16) -> Outcome
+    ensures { λ r. ⌜ r ≡ opened looked number opening ⌝ }
 {
-    let v = verdict(holding, number, opening);
+    let v = verdict(looked, number, opening);
     match v {
         Verdict::Turned(refusal) => outcomes::turned(refusal),
         Verdict::Clear => {
-            let count = holding.count;
+            let count = looked.count;
             let mut area = holding::empty_area();
             area.number = number;
             area.opening = opening;

@@ -10,9 +10,9 @@ use Rattle.ranges.specs.Ranges.{isBare, isArea, isSub, isYear}
 use Rattle.holding.specs.declared.Sub.{Sub}
 use Rattle.holding.specs.declared.Area.{Area}
 use Rattle.holding.specs.declared.Found.{Found}
-use Rattle.holding.specs.declared.Holding.{Holding}
-use Rattle.holding.specs.Find.{findArea, findSub}
-use Rattle.standing.specs.Standing.{known, areaAt, subAt, withSub}
+use Rattle.holding.specs.Find.{findSub}
+use Rattle.standing.specs.declared.Looked.{Looked}
+use Rattle.standing.specs.Standing.{known, subAt, withSub}
 use Rattle.outcomes.specs.declared.Outcome.{Outcome}
 use Rattle.outcomes.specs.declared.Report.the-variants.{Nothing}
 use Rattle.outcomes.specs.Outcomes.{accepted, answered, areaCases}
@@ -37,9 +37,8 @@ plantedSub sub forest year = record { number = sub .number; tenths = sub .tenths
 unfoldable pub plantedArea : Area → ℕ → Forest → ℕ → Area
 plantedArea area sub forest year = let stand = findSub area sub in withSub area stand (plantedSub (subAt area stand) forest year) year
 
-unfoldable pub planted : Holding → ℕ → ℕ → Forest → ℕ → Outcome
-planted holding number sub forest year =
-    let found = findArea holding number in
-    let area = areaAt holding found in
-    answered (smallest (plantCases number sub forest year found area))
-    (accepted Nothing found (holding .count) (plantedArea area sub forest year))
+unfoldable pub planted : Looked → ℕ → ℕ → Forest → ℕ → Outcome
+planted looked number sub forest year =
+    let area = looked .area in
+    answered (smallest (plantCases number sub forest year (looked .found) area))
+    (accepted Nothing (looked .found) (looked .count) (plantedArea area sub forest year))

@@ -5,12 +5,12 @@ ghost use Rattle.planting.specs.Planting.{plantCases, plantedSub, plante
 use forest::Forest;
 use holding::Area;
 use holding::Found;
-use holding::Holding;
 use holding::Sub;
 use outcomes::Outcome;
 use outcomes::Report;
 use refusals::Refusal;
 use refusals::Verdict;
+use standing::Looked;
 
 fn verdict(number: u16, sub: u8, forest: Forest, year: u16, found: Found, area: Area) -> Verdict
     ensures { λ r. ⌜ r ≡ smallest (plantCases number sub forest year found area) ⌝ }
@@ -56,11 +56,11 @@ fn planted_area(area: Area, sub: u8, forest: Forest, year: u16) -> Area
     standing::with_sub(area, stand, planted_sub(before, forest, year), year)
 }
 
-pub fn plant(holding: Holding, number: u16, sub: u8, forest: Forest, year: u16) -> Outcome
-    ensures { λ r. ⌜ r ≡ planted holding number sub forest year ⌝ }
+pub fn plant(looked: Looked, number: u16, sub: u8, forest: Forest, year: u16) -> Outcome
+    ensures { λ r. ⌜ r ≡ planted looked number sub forest year ⌝ }
 {
-    let found = holding::find_area(holding, number);
-    let area = standing::area_at(holding, found);
+    let found = looked.found;
+    let area = looked.area;
     let v = verdict(number, sub, forest, year, found, area);
     match v {
         Verdict::Turned(refusal) => outcomes::turned(refusal),
@@ -68,7 +68,7 @@ pub fn plant(holding: Holding, number: u16, sub: u8, forest: Forest, year: u16) 
             verdict: Verdict::Clear,
             report: Report::Nothing,
             place: found,
-            count: holding.count,
+            count: looked.count,
             area: planted_area(area, sub, forest, year),
         },
     }

@@ -19,7 +19,7 @@ use Rattle.entries.specs.declared.Entry.the-variants.{Open, Add, Clear, Plant, 
 use Rattle.holding.specs.declared.Area.{Area}
 use Rattle.holding.specs.declared.Holding.{Holding}
 use Rattle.holding.specs.Find.{findArea}
-use Rattle.standing.specs.Standing.{known, areaAt, balanceOf}
+use Rattle.standing.specs.Standing.{known, areaAt, balanceOf, lookedUp}
 use Rattle.outcomes.specs.declared.Outcome.{Outcome}
 use Rattle.outcomes.specs.Outcomes.{answered, areaCases}
 use Rattle.opening.specs.Opening.{opened}
@@ -76,7 +76,7 @@ module _ (area : Area) (k : AreaKept area) where
       (omega (arith, received-at-most))
 
 module _ (own : List ℕ) (table : isTable own ≡ true) (holding : Holding) (kept : AreasKept holding) where
-  filed-length : (number last : ℕ) → length (reportText (filed own schedule6 holding number last .report)) ≤ 60
+  filed-length : (number last : ℕ) → length (reportText (filed own schedule6 (lookedUp holding number) number last .report)) ≤ 60
   unfolding filed fileCases areaCases
   filed-length number last =
       let found = findArea holding number in
@@ -87,7 +87,7 @@ module _ (own : List ℕ) (table : isTable own ≡ true) (holding : Holding) (ke
       returned-length area (area-found holding kept number (not-false (known found) (out 3))) own table number last
       (not-false (isArea number) (out 0)) (not-false (isYear last) (out 1)))
 
-  withdrawn-length : (number : ℕ) → length (reportText (withdrawn holding number .report)) ≤ 19
+  withdrawn-length : (number : ℕ) → length (reportText (withdrawn (lookedUp holding number) number .report)) ≤ 19
   unfolding withdrawn withdrawCases areaCases
   withdrawn-length number =
       let found = findArea holding number in

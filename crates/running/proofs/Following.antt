@@ -7,14 +7,18 @@ use lib.ListN.{length, length-set}
 use Rattle.refusals.specs.declared.Verdict.{Verdict}
 use Rattle.refusals.specs.declared.Verdict.the-variants.{Clear as Accepted, Turned as Refused}
 use Rattle.schedules.specs.Schedules.{schedule6}
+use Rattle.entries.specs.declared.Parsed.{Parsed}
+use Rattle.lines.specs.Lines.{entryOf}
+use Rattle.holding.specs.declared.Area.{Area}
 use Rattle.holding.specs.declared.Holding.{Holding}
 use Rattle.holding.specs.declared.Found.{Found}
 use Rattle.holding.specs.declared.Found.the-variants.{At, Nowhere}
+use Rattle.standing.specs.Standing.{areaAt}
 use Rattle.outcomes.specs.declared.Outcome.{Outcome}
 use Rattle.outcomes.specs.Outcomes.{placedAt, placed}
 use Rattle.listing.specs.Listing.{lineTaken, ifAccepted, tableAfter, Run, next, printedFor, printed}
 use Rattle.taking.specs.declared.Turn.{Turn}
-use Rattle.taking.specs.Turns.{turnOf}
+use Rattle.taking.specs.Turns.{parsedTurn, foundFor, lookedFor, turnOf}
 use Rattle.running.specs.Tables.{tableBy}
 use Rattle.running.proofs.Turns.{turn-outcome, turn-table}
 
@@ -30,6 +34,17 @@ placed-long holding outcome = go (outcome .place)
 one-or-none : (v : Verdict) (a r : ℕ) → (a + ifAccepted v 1 0 ≡ ifAccepted v (a + 1) a) × (r + (1 - ifAccepted v 1 0) ≡ ifAccepted v r (r + 1))
 one-or-none Accepted a r = omega arith
 one-or-none (Refused refusal) a r = omega arith
+
+-- the turn of a line as it was read, on the area that was looked up, is the line's
+pub turn-is-of : (own default : List ℕ) (holding : Holding) (line : List ℕ) (parsed : Parsed) (found : Found) (area : Area) (turn : Turn)
+    → turn ≡ parsedTurn own default (record { count = holding .count; found = found; area = area }) line parsed
+    → parsed ≡ entryOf line → found ≡ foundFor holding parsed → area ≡ areaAt holding found → turn ≡ turnOf own default holding line
+unfolding turnOf
+turn-is-of own default holding line parsed found area turn t p f a =
+    t
+    ∙ ap (λ (x : Area). parsedTurn own default (record { count = holding .count; found = found; area = x }) line parsed) a
+    ∙ ap (λ (x : Found). parsedTurn own default (record { count = holding .count; found = x; area = areaAt holding x }) line parsed) f
+    ∙ ap (λ (x : Parsed). parsedTurn own default (lookedFor holding x) line x) p
 
 -- the turn of a line, taken with the run's own table and the cells of Schedule 6
 module _ (run : Run) (line own default : List ℕ) (turn : Turn) (t : turn ≡ turnOf own default (run .holding) line) (o : own ≡ run .own) (d : default ≡ schedule6) where

@@ -18,15 +18,17 @@ use Rattle.holding.specs.declared.Holding.{Holding}
 use Rattle.holding.specs.declared.Found.{Found}
 use Rattle.holding.specs.declared.Found.the-variants.{At, Nowhere}
 use Rattle.holding.specs.Holding.{emptyArea}
+use Rattle.standing.specs.Standing.{lookedUp}
 use Rattle.outcomes.specs.declared.Outcome.{Outcome}
 use Rattle.outcomes.specs.declared.Report.the-variants.{Nothing}
 use Rattle.outcomes.specs.Outcomes.{accepted, answered}
+use Rattle.steps.specs.Steps.{areaNamed, applied}
 use Rattle.growing.specs.declared.Grown.{Grown}
 use Rattle.growing.specs.Growing.{longerBy, growable, grownBy}
 use Rattle.growing.proofs.Fits.{grown-front, count-fits}
 use Rattle.listing.specs.Listing.{entryTaken, parsedTaken, lineTaken, entryTable, parsedTable, ifAccepted, tableAfter}
 use Rattle.taking.specs.declared.Turn.{Turn}
-use Rattle.taking.specs.Turns.{stayed, columnTurn, foundTurn, entryTurn, parsedTurn, turnOf}
+use Rattle.taking.specs.Turns.{stayed, columnTurn, foundTurn, entryTurn, parsedTurn, lookedFor, turnOf}
 use Rattle.running.specs.Tables.{tableIn, tableBy, Fronts}
 
 -- the table that a column leaves
@@ -56,13 +58,14 @@ module _ (own : List ℕ) (holding : Holding) (line : List ℕ) where
   stays outcome = record { outcomes = refl; tables = same (outcome .verdict) }
 
   column-follows : (column : ℕ) (v : Verdict) → growable own (holding .count) line column ≡ v
-      → Follows (longerBy own line column) (answered v (accepted Nothing Nowhere (holding .count) emptyArea)) (columnTurn holding v column)
+      → Follows (longerBy own line column) (answered v (accepted Nothing Nowhere (holding .count) emptyArea)) (columnTurn (holding .count) v column)
   unfolding columnTurn answered
   column-follows column Accepted e = record { outcomes = refl; tables = grown-front own (holding .count) line column e _ refl }
   column-follows column (Refused r) e = record { outcomes = refl; tables = refl }
 
-  entry-follows : (entry : Entry) → Follows (entryTable own line entry) (entryTaken own holding line entry) (entryTurn own schedule6 holding line entry)
-  unfolding entryTaken entryTurn foundTurn
+  entry-follows : (entry : Entry)
+      → Follows (entryTable own line entry) (entryTaken own holding line entry) (entryTurn own schedule6 (lookedUp holding (areaNamed entry)) line entry)
+  unfolding entryTaken entryTurn foundTurn applied
   entry-follows (Column column cells) = column-follows column (growable own (holding .count) line column) refl
   entry-follows (Open area opening) = stays _
   entry-follows (Add area sub land forest year) = stays _
@@ -71,7 +74,8 @@ module _ (own : List ℕ) (holding : Holding) (line : List ℕ) where
   entry-follows (File area last) = stays _
   entry-follows (Withdraw area) = stays _
 
-  parsed-follows : (parsed : Parsed) → Follows (parsedTable own line parsed) (parsedTaken own holding line parsed) (parsedTurn own schedule6 holding line parsed)
+  parsed-follows : (parsed : Parsed)
+      → Follows (parsedTable own line parsed) (parsedTaken own holding line parsed) (parsedTurn own schedule6 (lookedFor holding parsed) line parsed)
   unfolding parsedTaken parsedTurn
   parsed-follows (Taken entry) = entry-follows entry
   parsed-follows (Turned refusal) = stays _

@@ -9,6 +9,7 @@ ghost use Rattle.listing.specs.Listing.{start, listFrom, listingOf};
 ghost use Rattle.running.specs.Tables.{tableBy, Fronts};
 use holding::Found;
 use refusals::Refusal;
+use standing::Looked;
 
 // The longest book, in bytes.
 const LONGEST: usize = 65536;
@@ -46,7 +47,20 @@ fn put_lines(book: &[u8], out: &mut [u8]) -> usize
     let mut i: usize = 0;
     while i < book.len() {
         let end = listing::end_of(book, i);
-        let turn = taking::take(&table[0..count], &default, holding, &book[i..end]);
+        let parsed = lines::parse(&book[i..end]);
+        let found = taking::find(holding, parsed);
+        let mut named = holding::empty_area();
+        if let Found::At(k) = found {
+            if k < 16 {
+                named = holding.areas[k];
+            }
+        }
+        let looked = Looked {
+            count: holding.count,
+            found,
+            area: named,
+        };
+        let turn = taking::take(&table[0..count], &default, looked, &book[i..end], parsed);
         let column = turn.column;
         count = extend(&mut table, count, holding.count, &book[i..end], column);
         let outcome = turn.outcome;

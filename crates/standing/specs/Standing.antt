@@ -1,4 +1,4 @@
--- What stands at a place that a search found, and the area with a sub-area put back.
+-- What stands at a place that a search found, an area looked up by its number, and the area with a sub-area put back.
 use Prim.Native.Nat.{ℕ, _-_}
 use mathlib.Core.Bool.{Bool, true, false}
 use mathlib.Core.List.{List}
@@ -9,6 +9,8 @@ use Rattle.holding.specs.declared.Holding.{Holding}
 use Rattle.holding.specs.declared.Found.{Found}
 use Rattle.holding.specs.declared.Found.the-variants.{At, Nowhere}
 use Rattle.holding.specs.Holding.{emptySub, emptyArea}
+use Rattle.holding.specs.Find.{findArea}
+use Rattle.standing.specs.declared.Looked.{Looked}
 
 abbrev pub known : Found → Bool
 known (At i) = true
@@ -18,6 +20,10 @@ known Nowhere = false
 unfoldable pub areaAt : Holding → Found → Area
 areaAt holding (At i) = getD (holding .areas) i emptyArea
 areaAt holding Nowhere = emptyArea
+
+-- what a step is given of a holding: how many areas stand, and the one area that its entry names
+abbrev pub lookedUp : Holding → ℕ → Looked
+lookedUp holding number = let found = findArea holding number in record { count = holding .count; found = found; area = areaAt holding found }
 
 unfoldable pub subAt : Area → Found → Sub
 subAt area (At i) = getD (area .subs) i emptySub

@@ -1,8 +1,8 @@
-// What stands at a place that a search found, and an area with a sub-area put back.
+// What stands at a place that a search found, an area looked up by its number, and an area with a sub-area put back.
 ghost use mathlib.Core.Path.{_≡_};
 ghost use Prim.Native.Nat.{_<_};
 ghost use Rattle.holding.specs.declared.Found.the-variants.{At};
-ghost use Rattle.standing.specs.Standing.{known, areaAt, subAt, withSub};
+ghost use Rattle.standing.specs.Standing.{known, areaAt, lookedUp, subAt, withSub};
 use holding::Area;
 use holding::Found;
 use holding::Holding;
@@ -37,6 +37,25 @@ pub fn area_at(holding: Holding, found: Found) -> Area
             holding::empty_area()
         }
         Found::Nowhere => holding::empty_area(),
+    }
+}
+
+// An area looked up: how many areas stand, where it was found, and the area, the empty one where there is none.
+pub struct Looked {
+    pub count: usize,
+    pub found: Found,
+    pub area: Area,
+}
+
+pub fn look_up(holding: Holding, number: u16) -> Looked
+    ensures { λ r. ⌜ r ≡ lookedUp holding number ⌝ }
+{
+    let found = holding::find_area(holding, number);
+    let area = area_at(holding, found);
+    Looked {
+        count: holding.count,
+        found,
+        area,
     }
 }
 

@@ -7,7 +7,7 @@ use Rattle.entries.specs.declared.Entry.{Entry}
 use Rattle.entries.specs.declared.Entry.the-variants.{Open, Add, Clear, Plant, File, Withdraw, Column}
 use Rattle.holding.specs.declared.Holding.{Holding}
 use Rattle.holding.specs.Find.{findArea}
-use Rattle.standing.specs.Standing.{areaAt}
+use Rattle.standing.specs.Standing.{areaAt, lookedUp}
 use Rattle.opening.specs.Opening.{openCases}
 use Rattle.adding.specs.Adding.{newSub, addCases}
 use Rattle.clearing.specs.Clearing.{clearCases}
@@ -16,7 +16,7 @@ use Rattle.filing.specs.Filing.{fileCases}
 use Rattle.withdrawing.specs.Withdrawing.{withdrawCases}
 
 unfoldable pub casesOf : Holding → Entry → List Case
-casesOf holding (Open area opening) = openCases holding area opening
+casesOf holding (Open area opening) = openCases (lookedUp holding area) area opening
 casesOf holding (Add area sub land forest year) =
     let found = findArea holding area in addCases area (newSub sub land forest year) found (areaAt holding found)
 casesOf holding (Clear area sub year) = let found = findArea holding area in clearCases area sub year found (areaAt holding found)

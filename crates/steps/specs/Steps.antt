@@ -12,6 +12,8 @@ use Rattle.entries.specs.declared.Entry.the-variants.{Open, Add, Clear, Plant, 
 use Rattle.holding.specs.declared.Holding.{Holding}
 use Rattle.holding.specs.declared.Found.the-variants.{Nowhere}
 use Rattle.holding.specs.Holding.{emptyArea}
+use Rattle.standing.specs.declared.Looked.{Looked}
+use Rattle.standing.specs.Standing.{lookedUp}
 use Rattle.outcomes.specs.declared.Outcome.{Outcome}
 use Rattle.outcomes.specs.declared.Report.the-variants.{Nothing}
 use Rattle.outcomes.specs.Outcomes.{accepted, answered, turnedBack, placed}
@@ -23,17 +25,31 @@ use Rattle.filing.specs.Filing.{filed}
 use Rattle.withdrawing.specs.Withdrawing.{withdrawn}
 
 -- "33 T once an area stands": T extends the table, and changes nothing in the holding
-unfoldable pub columnTaken : Holding → Outcome
-columnTaken holding = answered (smallest (leb 1 (holding .count) ⇒ TableAfterArea ∷ [])) (accepted Nothing Nowhere (holding .count) emptyArea)
+unfoldable pub columnTaken : ℕ → Outcome
+columnTaken areas = answered (smallest (leb 1 areas ⇒ TableAfterArea ∷ [])) (accepted Nothing Nowhere areas emptyArea)
+
+-- the area that an entry names; T names none, and no area has the number 0
+abbrev pub areaNamed : Entry → ℕ
+areaNamed (Open area opening) = area
+areaNamed (Add area sub land forest year) = area
+areaNamed (Clear area sub year) = area
+areaNamed (Plant area sub forest year) = area
+areaNamed (File area last) = area
+areaNamed (Withdraw area) = area
+areaNamed (Column column cells) = 0
+
+-- an entry on the area that it names, as it was looked up
+abbrev pub appliedTo : List ℕ → List ℕ → Looked → Entry → Outcome
+appliedTo own default looked (Open area opening) = opened looked area opening
+appliedTo own default looked (Add area sub land forest year) = added own default looked area (newSub sub land forest year)
+appliedTo own default looked (Clear area sub year) = cleared looked area sub year
+appliedTo own default looked (Plant area sub forest year) = planted looked area sub forest year
+appliedTo own default looked (File area last) = filed own default looked area last
+appliedTo own default looked (Withdraw area) = withdrawn looked area
+appliedTo own default looked (Column column cells) = columnTaken (looked .count)
 
 unfoldable pub applied : List ℕ → List ℕ → Holding → Entry → Outcome
-applied own default holding (Open area opening) = opened holding area opening
-applied own default holding (Add area sub land forest year) = added own default holding area (newSub sub land forest year)
-applied own default holding (Clear area sub year) = cleared holding area sub year
-applied own default holding (Plant area sub forest year) = planted holding area sub forest year
-applied own default holding (File area last) = filed own default holding area last
-applied own default holding (Withdraw area) = withdrawn holding area
-applied own default holding (Column column cells) = columnTaken holding
+applied own default holding entry = appliedTo own default (lookedUp holding (areaNamed entry)) entry
 
 -- a step under a participant's table, which refuses every step if it is itself refused; the empty list is no table
 unfoldable pub stepped : List ℕ → Holding → Entry → Outcome

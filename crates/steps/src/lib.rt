@@ -1,6 +1,6 @@
-// A step of a holding: any entry, by its letter. Both tables are lent: the participant's, and the cells of Schedule 6.
+// A step of a holding: any entry, by its letter, on the area that it names. Both tables are lent: the participant's, and the cells of Schedule 6.
 ghost use mathlib.Core.Path.{_≡_};
-ghost use Rattle.steps.specs.Steps.{columnTaken, applied};
+ghost use Rattle.steps.specs.Steps.{columnTaken, areaNamed, appliedTo, applied};
 use entries::Entry;
 use holding::Found;
 use holding::Holding;
@@ -8,12 +8,13 @@ use outcomes::Outcome;
 use outcomes::Report;
 use refusals::Refusal;
 use refusals::Verdict;
+use standing::Looked;
 
 // T extends the table and leaves the holding, unless an area stands.
-fn take_column(holding: Holding) -> Outcome
-    ensures { λ r. ⌜ r ≡ columnTaken holding ⌝ }
+fn take_column(areas: usize) -> Outcome
+    ensures { λ r. ⌜ r ≡ columnTaken areas ⌝ }
 {
-    let v = refusals::weigh(Verdict::Clear, 1 <= holding.count, Refusal::TableAfterArea);
+    let v = refusals::weigh(Verdict::Clear, 1 <= areas, Refusal::TableAfterArea);
     match v {
         Verdict::Turned(refusal) => outcomes::turned(refusal),
         Verdict::Clear => {
@@ -22,37 +23,79 @@ fn take_column(holding: Holding) -> Outcome
                 verdict: Verdict::Clear,
                 report: Report::Nothing,
                 place: Found::Nowhere,
-                count: holding.count,
+                count: areas,
                 area,
             }
         }
     }
 }
 
-pub fn apply<'a>(own: &'a [u16], default: &'a [u16], holding: Holding, entry: Entry) -> Outcome
-    ensures { λ r. ⌜ r ≡ applied (now (own .entry)) (now (default .entry)) holding entry ⌝ }
+// The area that an entry names.
+pub fn area_named(entry: Entry) -> u16
+    ensures { λ r. ⌜ r ≡ areaNamed entry ⌝ }
 {
     match entry {
-        Entry::Open { area, opening } => opening::open(holding, area, opening),
+        Entry::Open { area, opening: _ } => area,
+        Entry::Add {
+            area,
+            sub: _,
+            land: _,
+            forest: _,
+            planted: _,
+        } => area,
+        Entry::Clear {
+            area,
+            sub: _,
+            year: _,
+        } => area,
+        Entry::Plant {
+            area,
+            sub: _,
+            forest: _,
+            year: _,
+        } => area,
+        Entry::File { area, last: _ } => area,
+        Entry::Withdraw { area } => area,
+        Entry::Column {
+            column: _,
+            cells: _,
+        } => 0,
+    }
+}
+
+// An entry on the area that it names, as it was looked up.
+pub fn apply_to<'a>(own: &'a [u16], default: &'a [u16], looked: Looked, entry: Entry) -> Outcome
+    ensures { λ r. ⌜ r ≡ appliedTo (now (own .entry)) (now (default .entry)) looked entry ⌝ }
+{
+    match entry {
+        Entry::Open { area, opening } => opening::open(looked, area, opening),
         Entry::Add {
             area,
             sub,
             land,
             forest,
             planted,
-        } => adding::add(own, default, holding, area, sub, land, forest, planted),
-        Entry::Clear { area, sub, year } => clearing::clear(holding, area, sub, year),
+        } => adding::add(own, default, looked, area, sub, land, forest, planted),
+        Entry::Clear { area, sub, year } => clearing::clear(looked, area, sub, year),
         Entry::Plant {
             area,
             sub,
             forest,
             year,
-        } => planting::plant(holding, area, sub, forest, year),
-        Entry::File { area, last } => filing::file(own, default, holding, area, last),
-        Entry::Withdraw { area } => withdrawing::withdraw(holding, area),
+        } => planting::plant(looked, area, sub, forest, year),
+        Entry::File { area, last } => filing::file(own, default, looked, area, last),
+        Entry::Withdraw { area } => withdrawing::withdraw(looked, area),
         Entry::Column {
             column: _,
             cells: _,
-        } => take_column(holding),
+        } => take_column(looked.count),
     }
+}
+
+// An entry on a holding.
+pub fn apply<'a>(own: &'a [u16], default: &'a [u16], holding: Holding, entry: Entry) -> Outcome
+    ensures { λ r. ⌜ r ≡ applied (now (own .entry)) (now (default .entry)) holding entry ⌝ }
+{
+    let looked = standing::look_up(holding, area_named(entry));
+    apply_to(own, default, looked, entry)
 }

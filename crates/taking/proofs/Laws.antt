@@ -9,10 +9,10 @@ use Rattle.entries.specs.declared.Entry.{Entry}
 use Rattle.entries.specs.declared.Parsed.{Parsed}
 use Rattle.entries.specs.declared.Parsed.the-variants.{Taken, Turned as Unread}
 use Rattle.holding.specs.declared.Area.{Area}
-use Rattle.holding.specs.declared.Holding.{Holding}
 use Rattle.holding.specs.declared.Found.{Found}
 use Rattle.holding.specs.declared.Found.the-variants.{At, Nowhere}
 use Rattle.holding.specs.Holding.{emptyArea}
+use Rattle.standing.specs.declared.Looked.{Looked}
 use Rattle.outcomes.specs.declared.Report.the-variants.{Nothing}
 use Rattle.outcomes.specs.Outcomes.{turnedBack, accepted, answered}
 use Rattle.growing.specs.declared.Grown.{Grown}
@@ -21,41 +21,41 @@ use Rattle.growing.specs.Sorts.{columnOf}
 use Rattle.taking.specs.declared.Turn.{Turn}
 use Rattle.taking.specs.Turns.{stayed, columnTurn, foundTurn, entryTurn, refusalIn, parsedTurn}
 
-module _ (holding : Holding) (own line : List ℕ) (column : ℕ) (grown : Grown) (e : grown ≡ grownBy own (holding .count) line column) where
-  verdict-is : grown .verdict ≡ growable own (holding .count) line column
+module _ (areas : ℕ) (own line : List ℕ) (column : ℕ) (grown : Grown) (e : grown ≡ grownBy own areas line column) where
+  verdict-is : grown .verdict ≡ growable own areas line column
   unfolding grownBy
   verdict-is = ap (λ (g : Grown). g .verdict) e
 
   -- turned back, the table stays
   pub column-turned : (refusal : Refusal) (turn : Turn) → turn ≡ stayed (turnedBack refusal) → grown .verdict ≡ Turned refusal
-      → turn ≡ columnTurn holding (growable own (holding .count) line column) column
+      → turn ≡ columnTurn areas (growable own areas line column) column
   unfolding stayed columnTurn answered
-  column-turned refusal turn t v = t ∙ ap (λ (w : Verdict). columnTurn holding w column) (sym v ∙ verdict-is)
+  column-turned refusal turn t v = t ∙ ap (λ (w : Verdict). columnTurn areas w column) (sym v ∙ verdict-is)
 
   pub column-taken : (area : Area) → grown .verdict ≡ Clear → area ≡ emptyArea
-      → record { outcome = accepted Nothing Nowhere (holding .count) area; column = At column }
-      ≡ columnTurn holding (growable own (holding .count) line column) column
+      → record { outcome = accepted Nothing Nowhere areas area; column = At column }
+      ≡ columnTurn areas (growable own areas line column) column
   unfolding columnTurn answered
   column-taken area v a =
-      ap (λ (x : Area). record { outcome = accepted Nothing Nowhere (holding .count) x; column = At column }) a
-      ∙ ap (λ (w : Verdict). columnTurn holding w column) (sym v ∙ verdict-is)
+      ap (λ (x : Area). record { outcome = accepted Nothing Nowhere areas x; column = At column }) a
+      ∙ ap (λ (w : Verdict). columnTurn areas w column) (sym v ∙ verdict-is)
 
-module _ (own default : List ℕ) (holding : Holding) (line : List ℕ) (turn : Turn) where
+module _ (own default : List ℕ) (looked : Looked) (line : List ℕ) (turn : Turn) where
   -- an entry, by its sort
-  pub entry-found : (entry : Entry) (found sort : Found) → found ≡ columnOf entry → found ≡ sort → turn ≡ foundTurn own default holding line entry sort
-      → turn ≡ entryTurn own default holding line entry
+  pub entry-found : (entry : Entry) (found sort : Found) → found ≡ columnOf entry → found ≡ sort → turn ≡ foundTurn own default looked line entry sort
+      → turn ≡ entryTurn own default looked line entry
   unfolding entryTurn
-  entry-found entry found sort c f t = t ∙ ap (foundTurn own default holding line entry) (sym f ∙ c)
+  entry-found entry found sort c f t = t ∙ ap (foundTurn own default looked line entry) (sym f ∙ c)
 
-  module _ (parsed read : Parsed) (e : parsed ≡ read) where
+  module _ (parsed : Parsed) where
     pub line-turned : (r refusal : Refusal) → parsed ≡ Unread r → refusal ≡ refusalIn parsed → turn ≡ stayed (turnedBack refusal)
-        → turn ≡ parsedTurn own default holding line read
+        → turn ≡ parsedTurn own default looked line parsed
     unfolding parsedTurn
     line-turned r refusal p q t =
         t
         ∙ ap (λ (x : Refusal). stayed (turnedBack x)) (q ∙ ap refusalIn p)
-        ∙ ap (parsedTurn own default holding line) (sym p ∙ e)
+        ∙ ap (parsedTurn own default looked line) (sym p)
 
-    pub line-taken : (entry : Entry) → parsed ≡ Taken entry → turn ≡ entryTurn own default holding line entry → turn ≡ parsedTurn own default holding line read
+    pub line-taken : (entry : Entry) → parsed ≡ Taken entry → turn ≡ entryTurn own default looked line entry → turn ≡ parsedTurn own default looked line parsed
     unfolding parsedTurn
-    line-taken entry p t = t ∙ ap (parsedTurn own default holding line) (sym p ∙ e)
+    line-taken entry p t = t ∙ ap (parsedTurn own default looked line) (sym p)

@@ -1,4 +1,4 @@
--- What a line comes to: its outcome on the holding, and the column by which the table grows where it is an accepted T line.
+-- What a line comes to: its outcome on the area that it names, and the column by which the table grows where it is an accepted T line.
 -- `own` is the participant's table, `default` the cells of Schedule 6 as they are lent.
 use Prim.Native.Nat.{ℕ}
 use mathlib.Core.List.{List}
@@ -14,10 +14,13 @@ use Rattle.holding.specs.declared.Holding.{Holding}
 use Rattle.holding.specs.declared.Found.{Found}
 use Rattle.holding.specs.declared.Found.the-variants.{At, Nowhere}
 use Rattle.holding.specs.Holding.{emptyArea}
+use Rattle.holding.specs.Find.{findArea}
+use Rattle.standing.specs.declared.Looked.{Looked}
+use Rattle.standing.specs.Standing.{areaAt}
 use Rattle.outcomes.specs.declared.Outcome.{Outcome}
 use Rattle.outcomes.specs.declared.Report.the-variants.{Nothing}
 use Rattle.outcomes.specs.Outcomes.{turnedBack, accepted, answered}
-use Rattle.steps.specs.Steps.{applied}
+use Rattle.steps.specs.Steps.{areaNamed, appliedTo}
 use Rattle.growing.specs.Growing.{growable}
 use Rattle.growing.specs.Sorts.{columnOf}
 use Rattle.taking.specs.declared.Turn.{Turn}
@@ -32,26 +35,33 @@ columnIf Accepted column = At column
 columnIf (Refused refusal) column = Nowhere
 
 -- T leaves the holding
-unfoldable pub columnTurn : Holding → Verdict → ℕ → Turn
-columnTurn holding verdict column =
-    record { outcome = answered verdict (accepted Nothing Nowhere (holding .count) emptyArea); column = columnIf verdict column }
+unfoldable pub columnTurn : ℕ → Verdict → ℕ → Turn
+columnTurn areas verdict column =
+    record { outcome = answered verdict (accepted Nothing Nowhere areas emptyArea); column = columnIf verdict column }
 
-unfoldable pub foundTurn : List ℕ → List ℕ → Holding → List ℕ → Entry → Found → Turn
-foundTurn own default holding line entry (At column) = columnTurn holding (growable own (holding .count) line column) column
-foundTurn own default holding line entry Nowhere = stayed (applied own default holding entry)
+unfoldable pub foundTurn : List ℕ → List ℕ → Looked → List ℕ → Entry → Found → Turn
+foundTurn own default looked line entry (At column) = columnTurn (looked .count) (growable own (looked .count) line column) column
+foundTurn own default looked line entry Nowhere = stayed (appliedTo own default looked entry)
 
-unfoldable pub entryTurn : List ℕ → List ℕ → Holding → List ℕ → Entry → Turn
-entryTurn own default holding line entry = foundTurn own default holding line entry (columnOf entry)
+unfoldable pub entryTurn : List ℕ → List ℕ → Looked → List ℕ → Entry → Turn
+entryTurn own default looked line entry = foundTurn own default looked line entry (columnOf entry)
 
 -- why a line is no entry; Form stands where it is one
 abbrev pub refusalIn : Parsed → Refusal
 refusalIn (Taken entry) = Form
 refusalIn (Turned refusal) = refusal
 
+unfoldable pub parsedTurn : List ℕ → List ℕ → Looked → List ℕ → Parsed → Turn
+parsedTurn own default looked line (Taken entry) = entryTurn own default looked line entry
+parsedTurn own default looked line (Turned refusal) = stayed (turnedBack refusal)
+
 -- "A line that cannot be read as an entry is refused before the holding is looked at."
-unfoldable pub parsedTurn : List ℕ → List ℕ → Holding → List ℕ → Parsed → Turn
-parsedTurn own default holding line (Taken entry) = entryTurn own default holding line entry
-parsedTurn own default holding line (Turned refusal) = stayed (turnedBack refusal)
+abbrev pub foundFor : Holding → Parsed → Found
+foundFor holding (Taken entry) = findArea holding (areaNamed entry)
+foundFor holding (Turned refusal) = Nowhere
+
+abbrev pub lookedFor : Holding → Parsed → Looked
+lookedFor holding parsed = let found = foundFor holding parsed in record { count = holding .count; found = found; area = areaAt holding found }
 
 unfoldable pub turnOf : List ℕ → List ℕ → Holding → List ℕ → Turn
-turnOf own default holding line = parsedTurn own default holding line (entryOf line)
+turnOf own default holding line = let parsed = entryOf line in parsedTurn own default (lookedFor holding parsed) line parsed

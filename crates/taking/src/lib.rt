@@ -1,9 +1,9 @@
-// A line of a book: what it comes to on a holding and a table. Both tables are lent: the participant's, and the cells of Schedule 6.
+// A line of a book: the area that it names, and what it comes to on that area and a table. Both tables are lent: the participant's, and the cells of Schedule 6.
 ghost use mathlib.Core.Path.{_≡_};
 ghost use Rattle.outcomes.specs.Outcomes.{turnedBack};
-ghost use Rattle.steps.specs.Steps.{applied};
+ghost use Rattle.steps.specs.Steps.{appliedTo};
 ghost use Rattle.growing.specs.Growing.{growable};
-ghost use Rattle.taking.specs.Turns.{stayed, columnTurn, entryTurn, refusalIn, turnOf};
+ghost use Rattle.taking.specs.Turns.{stayed, columnTurn, entryTurn, refusalIn, foundFor, parsedTurn};
 use entries::Entry;
 use entries::Parsed;
 use holding::Found;
@@ -12,6 +12,7 @@ use outcomes::Outcome;
 use outcomes::Report;
 use refusals::Refusal;
 use refusals::Verdict;
+use standing::Looked;
 
 // The outcome on the holding, and the column of an accepted T line: the table is grown by whoever has it, and is not copied for every line.
 pub struct Turn {
@@ -36,10 +37,10 @@ fn turned(refusal: Refusal) -> Turn
 }
 
 // T extends the table and leaves the holding.
-fn take_column(own: &[u16], holding: Holding, line: &[u8], column: usize) -> Turn
-    ensures { λ r. ⌜ r ≡ columnTurn holding (growable (now (own .entry)) (holding .count) (now (line .entry)) column) column ⌝ }
+fn take_column(own: &[u16], areas: usize, line: &[u8], column: usize) -> Turn
+    ensures { λ r. ⌜ r ≡ columnTurn areas (growable (now (own .entry)) areas (now (line .entry)) column) column ⌝ }
 {
-    let grown = growing::grow(own, holding.count, line, column);
+    let grown = growing::grow(own, areas, line, column);
     let verdict = grown.verdict;
     match verdict {
         Verdict::Turned(refusal) => turned(refusal),
@@ -50,7 +51,7 @@ fn take_column(own: &[u16], holding: Holding, line: &[u8], column: usize) -> Tur
                     verdict: Verdict::Clear,
                     report: Report::Nothing,
                     place: Found::Nowhere,
-                    count: holding.count,
+                    count: areas,
                     area,
                 },
                 column: Found::At(column),
@@ -60,26 +61,26 @@ fn take_column(own: &[u16], holding: Holding, line: &[u8], column: usize) -> Tur
 }
 
 // An entry that leaves the table.
-fn take_step<'a>(own: &'a [u16], default: &'a [u16], holding: Holding, entry: Entry) -> Turn
-    ensures { λ r. ⌜ r ≡ stayed (applied (now (own .entry)) (now (default .entry)) holding entry) ⌝ }
+fn take_step<'a>(own: &'a [u16], default: &'a [u16], looked: Looked, entry: Entry) -> Turn
+    ensures { λ r. ⌜ r ≡ stayed (appliedTo (now (own .entry)) (now (default .entry)) looked entry) ⌝ }
 {
-    let outcome = steps::apply(own, default, holding, entry);
+    let outcome = steps::apply_to(own, default, looked, entry);
     stay(outcome)
 }
 
 fn take_entry<'a>(
     own: &'a [u16],
     default: &'a [u16],
-    holding: Holding,
+    looked: Looked,
     line: &[u8],
     entry: Entry,
 ) -> Turn
-    ensures { λ r. ⌜ r ≡ entryTurn (now (own .entry)) (now (default .entry)) holding (now (line .entry)) entry ⌝ }
+    ensures { λ r. ⌜ r ≡ entryTurn (now (own .entry)) (now (default .entry)) looked (now (line .entry)) entry ⌝ }
 {
     let found = growing::column_of(entry);
     match found {
-        Found::At(column) => take_column(own, holding, line, column),
-        Found::Nowhere => take_step(own, default, holding, entry),
+        Found::At(column) => take_column(own, looked.count, line, column),
+        Found::Nowhere => take_step(own, default, looked, entry),
     }
 }
 
@@ -93,13 +94,28 @@ fn refusal_in(parsed: Parsed) -> Refusal
     }
 }
 
-// A line that cannot be read as an entry is refused before the holding is looked at.
-pub fn take<'a>(own: &'a [u16], default: &'a [u16], holding: Holding, line: &[u8]) -> Turn
-    ensures { λ r. ⌜ r ≡ turnOf (now (own .entry)) (now (default .entry)) holding (now (line .entry)) ⌝ }
+// The place of the area that a line names: for a line that is no entry the holding is not looked at.
+pub fn find(holding: Holding, parsed: Parsed) -> Found
+    ensures { λ r. ⌜ r ≡ foundFor holding parsed ⌝ }
 {
-    let parsed = lines::parse(line);
+    let Parsed::Taken(entry) = parsed else {
+        return Found::Nowhere;
+    };
+    holding::find_area(holding, steps::area_named(entry))
+}
+
+// What a line comes to, as it was read, on the area that it names.
+pub fn take<'a>(
+    own: &'a [u16],
+    default: &'a [u16],
+    looked: Looked,
+    line: &[u8],
+    parsed: Parsed,
+) -> Turn
+    ensures { λ r. ⌜ r ≡ parsedTurn (now (own .entry)) (now (default .entry)) looked (now (line .entry)) parsed ⌝ }
+{
     let Parsed::Taken(entry) = parsed else {
         return turned(refusal_in(parsed));
     };
-    take_entry(own, default, holding, line, entry)
+    take_entry(own, default, looked, line, entry)
 }

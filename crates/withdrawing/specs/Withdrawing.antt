@@ -7,9 +7,8 @@ use Rattle.refusals.specs.Refusals.{Case, _⇒_, smallest}
 use Rattle.ranges.specs.Ranges.{isArea}
 use Rattle.holding.specs.declared.Area.{Area}
 use Rattle.holding.specs.declared.Found.{Found}
-use Rattle.holding.specs.declared.Holding.{Holding}
-use Rattle.holding.specs.Find.{findArea}
-use Rattle.standing.specs.Standing.{areaAt, balanceOf}
+use Rattle.standing.specs.declared.Looked.{Looked}
+use Rattle.standing.specs.Standing.{balanceOf}
 use Rattle.outcomes.specs.declared.Outcome.{Outcome}
 use Rattle.outcomes.specs.declared.Report.the-variants.{Withdrawal}
 use Rattle.outcomes.specs.Outcomes.{accepted, answered, areaCases}
@@ -33,9 +32,8 @@ withdrawnArea area = record {
   subs = area .subs;
 }
 
-unfoldable pub withdrawn : Holding → ℕ → Outcome
-withdrawn holding number =
-    let found = findArea holding number in
-    let area = areaAt holding found in
-    answered (smallest (withdrawCases number found area))
-    (accepted (Withdrawal number (balanceOf area)) found (holding .count) (withdrawnArea area))
+unfoldable pub withdrawn : Looked → ℕ → Outcome
+withdrawn looked number =
+    let area = looked .area in
+    answered (smallest (withdrawCases number (looked .found) area))
+    (accepted (Withdrawal number (balanceOf area)) (looked .found) (looked .count) (withdrawnArea area))

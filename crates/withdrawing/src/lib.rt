@@ -4,11 +4,11 @@ ghost use Rattle.refusals.specs.Refusals.{smallest};
 ghost use Rattle.withdrawing.specs.Withdrawing.{withdrawCases, withdrawn};
 use holding::Area;
 use holding::Found;
-use holding::Holding;
 use outcomes::Outcome;
 use outcomes::Report;
 use refusals::Refusal;
 use refusals::Verdict;
+use standing::Looked;
 
 fn verdict(number: u16, found: Found, area: Area) -> Verdict
     ensures { λ r. ⌜ r ≡ smallest (withdrawCases number found area) ⌝ }
@@ -21,11 +21,11 @@ fn verdict(number: u16, found: Found, area: Area) -> Verdict
     outcomes::weigh_area(v, found, area)
 }
 
-pub fn withdraw(holding: Holding, number: u16) -> Outcome
-    ensures { λ r. ⌜ r ≡ withdrawn holding number ⌝ }
+pub fn withdraw(looked: Looked, number: u16) -> Outcome
+    ensures { λ r. ⌜ r ≡ withdrawn looked number ⌝ }
 {
-    let found = holding::find_area(holding, number);
-    let area = standing::area_at(holding, found);
+    let found = looked.found;
+    let area = looked.area;
     let v = verdict(number, found, area);
     match v {
         Verdict::Turned(refusal) => outcomes::turned(refusal),
@@ -38,7 +38,7 @@ pub fn withdraw(holding: Holding, number: u16) -> Outcome
                 verdict: Verdict::Clear,
                 report: Report::Withdrawal { area: number, due },
                 place: found,
-                count: holding.count,
+                count: looked.count,
                 area: after,
             }
         }

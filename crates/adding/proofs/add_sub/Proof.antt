@@ -1,12 +1,9 @@
 -- `adding::add_sub` meets its contract, by the verdict on the area that was looked up; a clear one says that a place is free and the stock is bounded.
 use Prim.Native.Nat.{_<_, _*_, _≤_}
-use mathlib.Core.Path.{_≡_, sym, _∙_}
+use mathlib.Core.Path.{sym, _∙_}
 use native.Mathlib.Omega.{arith}
 use borrow.Author.Tests.{leb-false}
-use Rattle.refusals.specs.Refusals.{smallest}
 use Rattle.refusals.proofs.Laws.{NoneApplies, none-applies, none-parts}
-use Rattle.holding.specs.Find.{findArea}
-use Rattle.standing.specs.Standing.{areaAt}
 use Rattle.carried.proofs.Bounds.{bounds}
 use Rattle.outcomes.specs.Outcomes.{areaCases}
 use Rattle.outcomes.proofs.Laws.{refused, taken, fields-kept}
@@ -15,11 +12,7 @@ use borrow.Author.Needs.{needs}
 use Rattle.adding.proofs.add_sub.Statement.{statement}
 use Rattle.adding.proofs.add_sub.Tie as tie
 
-judged : (c : tie.After-verdict) → let x = c .before .before .before .before .before .args in let found = findArea (x .holding) (x .number) in
-    c .verdict .result ≡ smallest (addCases (x .number) (x .sub) found (areaAt (x .holding) found))
-judged c = c .verdict .ensures ∙ simp (c .before .area-at .ensures, c .before .before .find-area .ensures)
-
-room : (c : tie.After-enum-told) → let area = c .before .before .before .area-at .result in (area .count < 16) × (area .stock .0 ≤ 60000000000 * 16)
+room : (c : tie.After-enum-told) → let area = c .before .before .before .before .before .before .args .looked .area in (area .count < 16) × (area .stock .0 ≤ 60000000000 * 16)
 unfolding addCases NoneApplies
 room c =
     let v = c .before .before in
@@ -33,20 +26,16 @@ added-area-requires c κs = room c
 
 returns : tie.Need-returns
 unfolding added
-returns c = refused _ _ (judged (c .before .before .before .before)) _ _ _ (c .turned .ensures) (c .before .before .v .given .1)
+returns c = refused _ _ (c .before .before .before .before .verdict .ensures) _ _ _ (c .turned .ensures) (c .before .before .v .given .1)
 
 returns-2 : tie.Need-returns-2
 unfolding added
-returns-2 c =
-    let v = c .before .before .before in
-    taken _ _ (judged v) _ _ (c .before .enum-told .given .1) (simp (c .added-area .ensures, v .before .area-at .ensures, v .before .before .find-area .ensures))
+returns-2 c = taken _ _ (c .before .before .before .verdict .ensures) _ _ (c .before .enum-told .given .1) (simp (c .added-area .ensures))
 
 pub add-sub-spec : {M : Type 1} → statement M
 add-sub-spec =
     tie.close
     (tie.spec
-    (λ c κs. search needs)
-    (λ c κs. search needs)
     (λ c κs. search needs)
     (λ c. search needs)
     (λ c κs. search needs)

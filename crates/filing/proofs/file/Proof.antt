@@ -1,20 +1,13 @@
 -- `filing::file` meets its contract, by the verdict on the area that was looked up; a clear one bounds the year and the area's fields.
-use mathlib.Core.Path.{_≡_, sym, _∙_}
-use Rattle.refusals.specs.Refusals.{smallest}
+use mathlib.Core.Path.{sym, _∙_}
 use Rattle.refusals.proofs.Laws.{NoneApplies, none-applies, none-parts}
 use Rattle.ranges.proofs.Laws.{year-at-most}
-use Rattle.holding.specs.Find.{findArea}
-use Rattle.standing.specs.Standing.{areaAt}
 use Rattle.outcomes.specs.Outcomes.{areaCases}
 use Rattle.outcomes.proofs.Laws.{refused, taken, fields-kept}
 use Rattle.filing.specs.Filing.{fileCases, filed}
 use borrow.Author.Needs.{needs}
 use Rattle.filing.proofs.file.Statement.{statement}
 use Rattle.filing.proofs.file.Tie as tie
-
-judged : (c : tie.After-verdict) → let x = c .before .before .before .before .before .args in let found = findArea (x .holding) (x .number) in
-    c .verdict .result ≡ smallest (fileCases (x .number) (x .last) found (areaAt (x .holding) found))
-judged c = c .verdict .ensures ∙ simp (c .before .area-at .ensures, c .before .before .find-area .ensures)
 
 settle-requires : tie.Need-settle-requires
 unfolding fileCases NoneApplies
@@ -25,21 +18,17 @@ settle-requires c κs =
 
 returns : tie.Need-returns
 unfolding filed
-returns c = refused _ _ (judged (c .before .before .before .before)) _ _ _ (c .turned .ensures) (c .before .before .v .given .1)
+returns c = refused _ _ (c .before .before .before .before .verdict .ensures) _ _ _ (c .turned .ensures) (c .before .before .v .given .1)
 
 returns-2 : tie.Need-returns-2
 unfolding filed
 returns-2 c =
-    let v = c .before .before .before .before in
-    taken _ _ (judged v) _ _ (c .before .before .enum-told .given .1)
-    (simp (c .before .settle .ensures, v .before .area-at .ensures, v .before .before .find-area .ensures))
+    taken _ _ (c .before .before .before .before .verdict .ensures) _ _ (c .before .before .enum-told .given .1) (simp (c .before .settle .ensures))
 
 pub file-spec : {M : Type 1} → statement M
 file-spec =
     tie.close
     (tie.spec
-    (λ c κs. search needs)
-    (λ c κs. search needs)
     (λ c κs. search needs)
     (λ c. search needs)
     (λ c κs. search needs)

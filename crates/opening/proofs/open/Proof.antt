@@ -10,7 +10,7 @@ use borrow.Author.Needs.{needs}
 use Rattle.opening.proofs.open.Statement.{statement}
 use Rattle.opening.proofs.open.Tie as tie
 
-room : (c : tie.After-enum-told) → c .before .before .before .args .holding .count < 16
+room : (c : tie.After-enum-told) → c .before .before .before .args .looked .count < 16
 unfolding openCases NoneApplies
 room c = leb-false _ _ (none-applies _ (sym (c .before .before .verdict .ensures) ∙ c .enum-told .given .1) .1 .1 .1 .1 .0)
 

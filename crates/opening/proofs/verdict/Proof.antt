@@ -20,16 +20,12 @@ returns c =
       y .before .is-year .ensures,
       a .weigh .ensures,
       a .before .is-area .ensures,
-      a .before .before .area-at .ensures,
-      a .before .before .before .find-area .ensures,
     )
 
 pub verdict-spec : {M : Type 1} → statement M
 verdict-spec =
     tie.close
     (tie.spec
-    (λ c κs. search needs)
-    (λ c κs. search needs)
     (λ c κs. search needs)
     (λ c κs. search needs)
     (λ c κs. search needs)

@@ -1,6 +1,6 @@
 -- `running::put_lines` meets its contract. The loop's invariant: what is listed from here on, put behind what was put, makes the whole listing.
 use Prim.Native.Nat.{ℕ, _+_, _-_, _≤_}
-use mathlib.Core.Path.{_≡_, refl, ap, _∙_}
+use mathlib.Core.Path.{_≡_, refl, sym, ap, _∙_}
 use mathlib.Core.Logic.{⊎-elim}
 use mathlib.Core.List.{List, []}
 use native.Mathlib.Omega.{arith}
@@ -9,13 +9,15 @@ use lib.ListN.{length, take, drop}
 use Rattle.text.specs.Writing.{Wrote}
 use Rattle.text.proofs.Writes.{wrote-then, wrote-as, wrote-length}
 use Rattle.holding.specs.declared.Holding.{Holding}
+use Rattle.standing.specs.Standing.{areaAt}
+use Rattle.standing.proofs.Laws.{area-here, area-out, area-nowhere}
 use Rattle.outcomes.specs.Outcomes.{placed}
 use Rattle.outcomes.proofs.Laws.{placed-here, placed-out, placed-nowhere}
 use Rattle.listing.specs.Lines.{linesOf}
 use Rattle.listing.specs.Listing.{Run, start, listFrom}
 use Rattle.listing.proofs.Lines.{end-within}
 use Rattle.listing.proofs.Folding.{from-line, from-none}
-use Rattle.running.proofs.Following.{placed-long, turn-prints, turn-runs}
+use Rattle.running.proofs.Following.{placed-long, turn-is-of, turn-prints, turn-runs}
 use borrow.Author.Needs.{needs}
 use Rattle.running.proofs.put_lines.Statement.{statement}
 use Rattle.running.proofs.put_lines.Tie as tie
@@ -45,12 +47,15 @@ loop-holds c = (
       (c .empty-holding .ensures)) w,
 )
 
--- the line taken before the holding changes, the line's end before it was taken, and the loop's turn
-abbrev takenOf : tie.At-match-came Inv-loop μ-loop → tie.After-take Inv-loop μ-loop
+-- the line taken before the holding changes, the area looked up before it was taken, the line's end before that, and the loop's turn
+abbrev takenOf : tie.At-match2-came Inv-loop μ-loop → tie.After-take Inv-loop μ-loop
 takenOf c = c .before .before .before .before .before .before .before .before .before .before
 
+abbrev lookedOf : tie.At-match2-came Inv-loop μ-loop → tie.At-match-came Inv-loop μ-loop
+lookedOf c = takenOf c .before .before .before .before .before
+
 abbrev endOf : tie.At-match-came Inv-loop μ-loop → tie.After-end-of Inv-loop μ-loop
-endOf c = takenOf c .before .before .before .before .before
+endOf c = c .before .before .before .before .before
 
 abbrev loopOf : tie.At-match-came Inv-loop μ-loop → tie.At-loop Inv-loop μ-loop
 loopOf c = endOf c .before .before
@@ -66,21 +71,36 @@ ended c =
     let within = end-within (l .before .before .before .before .before .args .book .now) (l .loop .i) (omega (arith, c .before .loop-test .taken)) in
     omega (arith, c .end-of .ensures, within)
 
+-- no more lines were counted than the book has bytes
+few : (c : tie.At-match-came Inv-loop μ-loop) → let l = loopOf c .loop in l .accepted + l .refused ≤ 65536
+few c = let l = loopOf c in omega (arith, l .loop .inv .1, endOf c .before .loop-test .taken, l .before .before .before .before .before .pre)
+
+-- the area looked up
+looks : (c : tie.At-match-came Inv-loop μ-loop) → let found = c .before .before .find .result in
+    (c .match .found ≡ found) × (c .match .named ≡ areaAt (loopOf c .loop .holding) found)
+looks c =
+    ⊎-elim
+    (λ a. (a .5 ∙ sym (a .1 .given .1), a .6 ∙ area-here _ _ _ _ (a .1 .given .1) (omega (arith, a .3 .taken, loopOf c .loop .inv .4))))
+    (⊎-elim
+    (λ a. (a .4 ∙ sym (a .1 .given .1), a .5 ∙ c .before .empty-area .ensures ∙ area-out _ _ _ (a .1 .given .1) (omega (arith, a .3 .left, loopOf c .loop .inv .4))))
+    (λ a. (a .2, a .3 ∙ c .before .empty-area .ensures ∙ area-nowhere _ _ (a .1 .given .1))))
+    (c .match .came)
+
 -- the holding after a line
-stands : (c : tie.At-match-came Inv-loop μ-loop) → c .match .holding ≡ placed (loopOf c .loop .holding) (takenOf c .take .result .outcome)
+stands : (c : tie.At-match2-came Inv-loop μ-loop) → c .match2 .holding ≡ placed (loopOf (lookedOf c) .loop .holding) (takenOf c .take .result .outcome)
 stands c =
     ⊎-elim
     (λ a. a .5 ∙ placed-here _ _ _ (a .1 .given .1))
     (⊎-elim
-    (λ a. a .5 ∙ placed-out _ _ _ (a .1 .given .1) (omega (arith, a .4 .left, loopOf c .loop .inv .4)))
+    (λ a. a .5 ∙ placed-out _ _ _ (a .1 .given .1) (omega (arith, a .4 .left, loopOf (lookedOf c) .loop .inv .4)))
     (λ a. a .2 ∙ placed-nowhere _ _ (a .1 .given .1)))
-    (c .match .came)
+    (c .match2 .came)
 
 add-i : tie.Need-add-i Inv-loop μ-loop
-add-i c = let e = endOf c in omega (arith, ended e, e .before .before .before .before .before .before .before .pre)
+add-i c = let e = endOf (lookedOf c) in omega (arith, ended e, e .before .before .before .before .before .before .before .pre)
 
 loop-less : tie.Need-loop-less Inv-loop μ-loop
-loop-less c = let e = endOf c in omega (arith, ended e, e .before .loop-test .taken)
+loop-less c = let e = endOf (lookedOf c) in omega (arith, ended e, e .before .loop-test .taken)
 
 loop-again : tie.Need-loop-again Inv-loop μ-loop
 loop-again c =
@@ -88,16 +108,19 @@ loop-again c =
     let put = c .before .before .before .before .put-line .ensures .wrote in
     let grown = c .before .before .before .before .before .before .before .extend .ensures in
     let t = takenOf c in
-    let e = endOf c in
-    let l = loopOf c in
+    let e = endOf (lookedOf c) in
+    let l = loopOf (lookedOf c) in
     let book = l .before .before .before .before .before .args .book .now in
     let line = take (e .end-of .result - l .loop .i) (drop (l .loop .i) book) in
+    let k = lookedOf c in
+    let turn =
+    turn-is-of _ _ _ line _ _ _ (t .take .result) (t .take .ensures) (k .before .before .before .parse .ensures) (looks k .0 ∙ k .before .before .find .ensures) (looks k .1 ∙ ap (areaAt _) (sym (looks k .0))) in
     let own = ap (λ (n : ℕ). take n (l .loop .table)) (sub-zero (l .loop .count)) in
     let six = l .before .before .schedule-six .ensures in
     let runs =
-    turn-runs (runOf l) line _ _ (t .take .result) (t .take .ensures) own six _ _ _ _ (counts .result)
+    turn-runs (runOf l) line _ _ (t .take .result) turn own six _ _ _ _ (counts .result)
     (grown .front) (stands c) (counts .ensures .0) refl refl in
-    let prints = turn-prints (runOf l) line _ _ (t .take .result) (t .take .ensures) own six in (
+    let prints = turn-prints (runOf l) line _ _ (t .take .result) turn own six in (
       omega (arith, ended e),
       omega (arith, ended e, counts .ensures .1, l .loop .inv .1),
       grown .fits,
@@ -130,25 +153,35 @@ put-lines-spec =
     (λ c κs. search needs)
     loop-holds
     (λ c κs. search needs)
+    (λ c. omega (arith, ended c))
+    (λ c. omega (arith, ended c))
+    (λ c. omega (arith, ended c))
+    (λ c κs. search needs)
+    (λ c κs. search needs)
+    (λ c κs. search needs)
+    (λ c. search needs)
+    (λ c. omega arith)
+    (λ c. omega (arith, c .if1 .taken, c .before .before .before .before .before .before .before .before .before .before .loop .inv .4))
+    (λ c. search needs)
     (λ c. omega arith)
     (λ c. omega arith)
     (λ c. omega arith)
     (λ c. search needs)
-    (λ c. omega (arith, ended (c .before .before .before)))
-    (λ c. omega (arith, ended (c .before .before .before)))
-    (λ c. omega (arith, ended (c .before .before .before)))
+    (λ c. omega (arith, ended (endOf (c .before .before .before))))
+    (λ c. omega (arith, ended (endOf (c .before .before .before))))
+    (λ c. omega (arith, ended (endOf (c .before .before .before))))
     (λ c κs. search needs)
-    (λ c. omega (arith, ended (c .before .before .before .before .before .before)))
-    (λ c. omega (arith, ended (c .before .before .before .before .before .before)))
-    (λ c. omega (arith, ended (c .before .before .before .before .before .before)))
+    (λ c. omega (arith, ended (endOf (c .before .before .before .before .before .before))))
+    (λ c. omega (arith, ended (endOf (c .before .before .before .before .before .before))))
+    (λ c. omega (arith, ended (endOf (c .before .before .before .before .before .before))))
     (λ c κs. search needs)
-    (λ c. omega arith)
-    (λ c. omega arith)
+    (λ c. omega (arith, few (c .before .before .before .before .before .before .before .before .before .before)))
+    (λ c. omega (arith, few (c .before .before .before .before .before .before .before .before .before .before)))
     (λ c κs. search needs)
     (λ c κs. search needs)
-    (λ c. omega arith)
-    (λ c. omega arith)
-    (λ c. omega arith)
+    (λ c. omega (arith, c .counted .ensures .1, few (c .before .before .before .before .before .before .before .before .before .before .before .before .before .before)))
+    (λ c. omega (arith, c .counted .ensures .1))
+    (λ c. omega (arith, c .counted .ensures .1, few (c .before .before .before .before .before .before .before .before .before .before .before .before .before .before)))
     (λ c. search needs)
     (λ c. omega arith)
     (λ c. search needs)

@@ -1,5 +1,5 @@
--- `steps::apply` meets its contract: in each arm the entry is the arm's, and its operation is the definition's.
-use mathlib.Core.Path.{sym, ap, _∙_}
+-- `steps::apply` meets its contract: the area that the entry names is looked up in the holding.
+use mathlib.Core.Path.{_∙_}
 use Rattle.steps.specs.Steps.{applied}
 use borrow.Author.Needs.{needs}
 use Rattle.steps.proofs.apply.Statement.{statement}
@@ -7,54 +7,7 @@ use Rattle.steps.proofs.apply.Tie as tie
 
 returns : tie.Need-returns
 unfolding applied
-returns c = c .«open» .ensures ∙ sym (ap (applied _ _ _) (c .before .before .entry .given .1))
-
-returns-2 : tie.Need-returns-2
-unfolding applied
-returns-2 c = c .add .ensures ∙ sym (ap (applied _ _ _) (c .before .before .entry2 .given .1))
-
-returns-3 : tie.Need-returns-3
-unfolding applied
-returns-3 c = c .clear .ensures ∙ sym (ap (applied _ _ _) (c .before .before .entry3 .given .1))
-
-returns-4 : tie.Need-returns-4
-unfolding applied
-returns-4 c = c .plant .ensures ∙ sym (ap (applied _ _ _) (c .before .before .entry4 .given .1))
-
-returns-5 : tie.Need-returns-5
-unfolding applied
-returns-5 c = c .file .ensures ∙ sym (ap (applied _ _ _) (c .before .before .entry5 .given .1))
-
-returns-6 : tie.Need-returns-6
-unfolding applied
-returns-6 c = c .withdraw .ensures ∙ sym (ap (applied _ _ _) (c .before .before .entry6 .given .1))
-
-returns-7 : tie.Need-returns-7
-unfolding applied
-returns-7 c = c .take-column .ensures ∙ sym (ap (applied _ _ _) (c .before .enum-told .given .1))
+returns c = c .apply-to .ensures ∙ simp (c .before .look-up .ensures, c .before .before .area-named .ensures)
 
 pub apply-spec : {M : Type 1} → statement M
-apply-spec =
-    tie.close
-    (tie.spec
-    (λ c. search needs)
-    (λ c κs. search needs)
-    (λ c. search needs)
-    (λ c κs. search needs)
-    (λ c. search needs)
-    (λ c κs. search needs)
-    (λ c. search needs)
-    (λ c κs. search needs)
-    (λ c. search needs)
-    (λ c κs. search needs)
-    (λ c. search needs)
-    (λ c κs. search needs)
-    (λ c. search needs)
-    (λ c κs. search needs)
-    returns
-    returns-2
-    returns-3
-    returns-4
-    returns-5
-    returns-6
-    returns-7)
+apply-spec = tie.close (tie.spec (λ c κs. search needs) (λ c κs. search needs) (λ c κs. search needs) returns)

@@ -6,7 +6,7 @@ use Rattle.taking.proofs.take_step.Statement.{statement}
 use Rattle.taking.proofs.take_step.Tie as tie
 
 returns : tie.Need-returns
-returns c = c .stay .ensures ∙ ap stayed (c .before .apply .ensures)
+returns c = c .stay .ensures ∙ ap stayed (c .before .apply-to .ensures)
 
 pub take-step-spec : {M : Type 1} → statement M
 take-step-spec = tie.close (tie.spec (λ c κs. search needs) (λ c κs. search needs) returns)
