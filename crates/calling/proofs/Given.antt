@@ -23,11 +23,15 @@ use Rattle.decoding.proofs.Numbers.{number-count, clear-decodable}
 use Rattle.entries.specs.declared.Entry.{Entry}
 use Rattle.entries.specs.declared.Parsed.the-variants.{Taken}
 use Rattle.lines.specs.Lines.{entryOf}
+use Rattle.holding.specs.declared.Area.{Area}
 use Rattle.holding.specs.declared.Holding.{Holding}
+use Rattle.holding.specs.declared.Found.{Found}
 use Rattle.holding.specs.declared.Found.the-variants.{At, Nowhere}
+use Rattle.holding.specs.Find.{findArea}
+use Rattle.standing.specs.Standing.{areaAt}
 use Rattle.outcomes.specs.declared.Outcome.{Outcome}
 use Rattle.outcomes.specs.Outcomes.{placed}
-use Rattle.steps.specs.Steps.{applied}
+use Rattle.steps.specs.Steps.{areaNamed, appliedTo, applied}
 use Rattle.growing.specs.declared.Grown.{Grown}
 use Rattle.growing.specs.Growing.{longerBy, growable, grownBy}
 use Rattle.growing.specs.Sorts.{columnOf}
@@ -186,6 +190,16 @@ module _ (own statement line : List ℕ) (column : ℕ) (read : Read) (grown : G
         )
 
 -- ---- every other entry
+
+-- a step on the area that was looked up is a step of the holding
+pub step-looked : (own default : List ℕ) (holding : Holding) (entry : Entry) (number : ℕ) (found : Found) (area : Area) (outcome : Outcome)
+    → outcome ≡ appliedTo own default (record { count = holding .count; found = found; area = area }) entry
+    → number ≡ areaNamed entry → found ≡ findArea holding number → area ≡ areaAt holding found → outcome ≡ applied own default holding entry
+unfolding applied
+step-looked own default holding entry number found area outcome o n f a =
+    o
+    ∙ ap (λ (x : Area). appliedTo own default (record { count = holding .count; found = found; area = x }) entry) a
+    ∙ ap (λ (x : Found). appliedTo own default (record { count = holding .count; found = x; area = areaAt holding x }) entry) (f ∙ ap (findArea holding) n)
 
 module _ (own statement default : List ℕ) (entry : Entry) (read : Read) (outcome : Outcome) (v : Verdict) (r : read ≡ readOf statement)
     (d : default ≡ schedule6) (o : outcome ≡ applied own default (read .holding) entry) (w : v ≡ smaller (read .verdict) (outcome .verdict)) where

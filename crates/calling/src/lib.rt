@@ -14,6 +14,7 @@ use entries::Entry;
 use entries::Parsed;
 use holding::Found;
 use refusals::Verdict;
+use standing::Looked;
 
 // Of two verdicts the refusal with the smaller number.
 fn least(a: Verdict, b: Verdict) -> Verdict
@@ -88,17 +89,36 @@ fn take_step(statement: &[u8], own: &[u16], entry: Entry, out: &mut [u8]) -> Wri
 {
     let read = statement::read_from(statement);
     let read_verdict = read.verdict;
-    let holding = read.holding;
+    let mut holding = read.holding;
     let default = schedules::schedule_six();
-    let outcome = steps::apply(own, &default, holding, entry);
+    let found = holding::find_area(holding, steps::area_named(entry));
+    let mut named = holding::empty_area();
+    if let Found::At(k) = found {
+        if k < 16 {
+            named = holding.areas[k];
+        }
+    }
+    let looked = Looked {
+        count: holding.count,
+        found,
+        area: named,
+    };
+    let outcome = steps::apply_to(own, &default, looked, entry);
     let step_verdict = outcome.verdict;
     let v = least(read_verdict, step_verdict);
     match v {
         Verdict::Turned(refusal) => Written::Refused(refusal),
         Verdict::Clear => {
-            let after = outcomes::place(holding, outcome);
+            let place = outcome.place;
+            if let Found::At(k) = place {
+                let area = outcome.area;
+                if k < 16 {
+                    holding.areas[k] = area;
+                }
+                holding.count = outcome.count;
+            }
             let report = outcome.report;
-            outputs::write_reported(after, report, out)
+            outputs::write_reported(holding, report, out)
         }
     }
 }

@@ -3,8 +3,7 @@ ghost use mathlib.Core.Path.{_≡_};
 ghost use Prim.Native.Nat.{_≤_};
 ghost use lib.ListN.{length};
 ghost use Rattle.text.specs.Writing.{Wrote};
-ghost use Rattle.holding.specs.Holding.{areasOf};
-ghost use Rattle.format.specs.Format.{flag, texts, yearsText, amountsText, areaText, statementOf};
+ghost use Rattle.format.specs.Format.{flag, yearsText, amountsText, areaText, statementOf};
 ghost use Rattle.records.specs.Put.{Put};
 ghost use Rattle.answers.specs.Answers.{written, bufferAfter};
 ghost use Rattle.writing.specs.Writable.{writable};
@@ -53,11 +52,14 @@ fn put_area(out: &mut [u8], at: usize, area: Area) -> usize
     sublines::put_subs(out, next, area)
 }
 
-fn put_areas(out: &mut [u8], at: usize, holding: Holding) -> usize
-    ensures { λ r. ⌜ Put 15760 (now (out .entry)) at (texts areaText (areasOf holding)) (now (out .exit)) r ⌝ }
+// Puts the holding's statement at a place; the answer is the place after it. The holding is handed on to no other function, and so copied once.
+pub fn put_statement(out: &mut [u8], at: usize, holding: Holding) -> usize
+    ensures { λ r. ⌜ Wrote (now (out .entry)) at (statementOf holding) (now (out .exit)) r ⌝ }
+    ensures { λ _. ⌜ length (statementOf holding) ≤ 15783 ⌝ }
 {
     let n = holding.count;
-    let mut next = at;
+    let start = records::put_start(out, at, 72);
+    let mut next = records::put_field(out, start, n as u64, 10);
     let mut i: usize = 0;
     while i < 16 {
         if n <= i {
@@ -68,16 +70,6 @@ fn put_areas(out: &mut [u8], at: usize, holding: Holding) -> usize
         i += 1;
     }
     next
-}
-
-// Puts the holding's statement at a place; the answer is the place after it.
-pub fn put_statement(out: &mut [u8], at: usize, holding: Holding) -> usize
-    ensures { λ r. ⌜ Wrote (now (out .entry)) at (statementOf holding) (now (out .exit)) r ⌝ }
-    ensures { λ _. ⌜ length (statementOf holding) ≤ 15783 ⌝ }
-{
-    let next = records::put_start(out, at, 72);
-    let next = records::put_field(out, next, holding.count as u64, 10);
-    put_areas(out, next, holding)
 }
 
 // Writes the holding's statement to the front of `out`: how many bytes it has, or why it is not written.
