@@ -9,7 +9,8 @@ use Rattle.refusals.specs.Refusals.{weighed, weighAll, smallest}
 use Rattle.units.specs.Units.{treesOf, residueOf}
 use Rattle.units.specs.Tonnes.{tonnes, value, changeBetween}
 use Rattle.schedules.specs.Schedules.{placeSix, schedule6}
-use Rattle.tables.specs.Participant.{lengthOf, ownColumn}
+use Rattle.parts.specs.Parts.{lengthOf}
+use Rattle.lent.specs.Lent.{ownColumn}
 use Rattle.rates.specs.Rates.{consulted, cellAt, rateSix}
 use Rattle.rates.specs.Decay.{shareAfter}
 use Rattle.stocks.specs.Stocks.{treesOn, residueOn, subStock, areaStock}

@@ -13,7 +13,8 @@ use Rattle.laws.proofs.Lists.{ceiling-at, ceiling-set, ceiling-append, sum-set}
 use Rattle.refusals.specs.declared.Verdict.the-variants.{Clear}
 use Rattle.refusals.proofs.Laws.{NoneApplies, none-applies}
 use Rattle.schedules.specs.Schedules.{cellCeiling}
-use Rattle.tables.specs.Participant.{columnCount, longestColumn, lengthsOf, cellsOf, isTable}
+use Rattle.parts.specs.Parts.{columnCount, lengthsOf, cellsOf}
+use Rattle.tables.specs.Participant.{longestColumn, isTable}
 use Rattle.tables.proofs.Columns.{Columns, columns-read, columns-table}
 use Rattle.extension.specs.Extension.{isFree, longer, extensible}
 

@@ -9,7 +9,8 @@ use Rattle.refusals.specs.declared.Refusal.the-variants.{TableColumn, OutputSho
 use Rattle.refusals.specs.declared.Verdict.{Verdict}
 use Rattle.refusals.specs.Refusals.{_⇒_, smallest}
 use Rattle.schedules.specs.Schedules.{cellCeiling}
-use Rattle.tables.specs.Participant.{columnCount, longestColumn, lengthsOf, cellsOf, hasColumns}
+use Rattle.parts.specs.Parts.{columnCount, lengthsOf, cellsOf}
+use Rattle.tables.specs.Participant.{longestColumn, hasColumns}
 
 -- no table yet is a table whose ten columns have no cells
 unfoldable pub begun : List ℕ → List ℕ

@@ -14,8 +14,8 @@ use refusals::Verdict;
 fn is_free(table: &[u16], column: usize) -> bool
     ensures { λ r. ⌜ r ≡ isFree (now (table .entry)) column ⌝ }
 {
-    let lengths = tables::part(table, 0, tables::COLUMNS);
-    let from_column = tables::part(lengths, column, tables::COLUMNS);
+    let lengths = parts::part(table, 0, parts::COLUMNS);
+    let from_column = parts::part(lengths, column, parts::COLUMNS);
     tables::each_at_most(from_column, 0)
 }
 
@@ -24,7 +24,7 @@ fn judge(table: &[u16], column: usize, cells: &[u16], room: usize) -> Verdict
 {
     let whole = tables::has_columns(table);
     let v = refusals::weigh(Verdict::Clear, !whole, Refusal::TableColumn);
-    let v = refusals::weigh(v, tables::COLUMNS <= column, Refusal::TableColumn);
+    let v = refusals::weigh(v, parts::COLUMNS <= column, Refusal::TableColumn);
     let v = refusals::weigh(v, cells.len() == 0, Refusal::TableColumn);
     let v = refusals::weigh(
         v,

@@ -14,7 +14,8 @@ use Rattle.forest.specs.declared.Forest.the-variants.{Radiata, DouglasFir, Exot
 use Rattle.schedules.specs.Columns.{joined, placesFrom}
 use Rattle.schedules.specs.Cells.{stock6, residue6}
 use Rattle.schedules.specs.Schedules.{placeSix, schedule6}
-use Rattle.tables.specs.Participant.{lengthOf, ownColumn}
+use Rattle.parts.specs.Parts.{lengthOf}
+use Rattle.lent.specs.Lent.{ownColumn}
 use Rattle.rates.specs.Rates.{consulted, cellAt, rateSix}
 use Rattle.rates.specs.Decay.{shareAfter}
 use Rattle.entries.specs.declared.Entry.{Entry}

@@ -10,7 +10,8 @@ use lib.ListN.{length, length-take, length-drop}
 use Rattle.laws.specs.Lists.{eachAtMost, sumOf}
 use Rattle.laws.proofs.Lists.{and-left, and-right, both, sum-at-most}
 use Rattle.schedules.specs.Schedules.{cellCeiling}
-use Rattle.tables.specs.Participant.{columnCount, longestColumn, longestTable, lengthsOf, cellsOf, hasColumns, isTable}
+use Rattle.parts.specs.Parts.{columnCount, lengthsOf, cellsOf}
+use Rattle.tables.specs.Participant.{longestColumn, longestTable, hasColumns, isTable}
 
 pub record Columns (table : List ℕ) : Type 0 where
   pub ten : columnCount ≤ length table

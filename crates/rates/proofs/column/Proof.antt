@@ -3,7 +3,8 @@ use mathlib.Core.Path.{sym, ap, _∙_}
 use lib.ListN.{take, drop}
 use Rattle.schedules.specs.declared.Place.{Place}
 use Rattle.schedules.specs.Columns.{Column}
-use Rattle.tables.specs.Participant.{lengthOf, ownColumn}
+use Rattle.parts.specs.Parts.{lengthOf}
+use Rattle.lent.specs.Lent.{ownColumn}
 use Rattle.rates.proofs.LookUp.{defaults, participants}
 use borrow.Author.Needs.{needs}
 use Rattle.rates.proofs.column.Statement.{statement}

@@ -3,7 +3,7 @@ use mathlib.Core.Path.{sym, ap, _∙_}
 use mathlib.Core.List.{[]}
 use Rattle.schedules.specs.declared.Place.{Place}
 use Rattle.schedules.specs.Columns.{Column}
-use Rattle.tables.specs.Participant.{lengthOf}
+use Rattle.parts.specs.Parts.{lengthOf}
 use Rattle.rates.proofs.LookUp.{defaults, participants}
 use borrow.Author.Needs.{needs}
 use Rattle.rates.proofs.first_age.Statement.{statement}

@@ -1,7 +1,9 @@
 -- `tables::has_columns` meets its contract, test by test.
+use native.Mathlib.Omega.{arith}
 use borrow.Author.Tests.{lt-leb, le-leb}
+use lib.Seq.{take-take}
+use Rattle.parts.proofs.Parts.{to-the-end}
 use Rattle.tables.specs.Participant.{hasColumns}
-use Rattle.tables.proofs.Parts.{to-the-end}
 use borrow.Author.Needs.{needs}
 use Rattle.tables.proofs.has_columns.Statement.{statement}
 use Rattle.tables.proofs.has_columns.Tie as tie
@@ -13,12 +15,14 @@ returns c = simp (lt-leb _ _ (c .if1 .taken))
 returns-2 : tie.Need-returns-2
 unfolding hasColumns
 returns-2 c =
+    let t = c .before .before .before .before .before .before .before .args .table .now in
     simp (
       le-leb _ _ (c .before .before .before .before .before .if1 .left),
-      c .before .before .sum .ensures .0,
+      c .before .before .cells-before .ensures,
+      take-take 10 10 t (omega arith),
       c .before .each-at-most .ensures,
       c .each-at-most2 .ensures,
-      to-the-end (c .before .before .before .before .before .before .before .args .table .now) 10,
+      to-the-end t 10,
     )
 
 pub has-columns-spec : {M : Type 1} → statement M
