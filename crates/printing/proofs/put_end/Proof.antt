@@ -9,4 +9,4 @@ unfolding endText
 returns c = c .before .before .put-pair .ensures
 
 pub put-end-spec : {M : Type 1} → statement M
-put-end-spec = tie.close (tie.spec (λ c κs. search needs) (λ c. search needs) returns)
+put-end-spec = tie.close (tie.spec (λ c κs. tt) (λ c. search needs) returns)

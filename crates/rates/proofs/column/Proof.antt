@@ -6,7 +6,6 @@ use Rattle.schedules.specs.Columns.{Column}
 use Rattle.parts.specs.Parts.{lengthOf}
 use Rattle.lent.specs.Lent.{ownColumn}
 use Rattle.rates.proofs.LookUp.{defaults, participants}
-use borrow.Author.Needs.{needs}
 use Rattle.rates.proofs.column.Statement.{statement}
 use Rattle.rates.proofs.column.Tie as tie
 
@@ -32,10 +31,10 @@ pub column-spec : {M : Type 1} → statement M
 column-spec =
     tie.close
     (tie.spec
-    (λ c κs. search needs)
-    (λ c κs. search needs)
-    (λ c κs. search needs)
-    (λ c κs. search needs)
+    (λ c κs. tt)
+    (λ c κs. tt)
+    (λ c κs. tt)
+    (λ c κs. tt)
     returns
-    (λ c κs. search needs)
+    (λ c κs. tt)
     returns-2)

@@ -5,7 +5,6 @@ use Rattle.schedules.specs.declared.Place.{Place}
 use Rattle.schedules.specs.Columns.{Column}
 use Rattle.parts.specs.Parts.{lengthOf}
 use Rattle.rates.proofs.LookUp.{defaults, participants}
-use borrow.Author.Needs.{needs}
 use Rattle.rates.proofs.first_age.Statement.{statement}
 use Rattle.rates.proofs.first_age.Tie as tie
 
@@ -27,8 +26,8 @@ pub first-age-spec : {M : Type 1} → statement M
 first-age-spec =
     tie.close
     (tie.spec
-    (λ c κs. search needs)
-    (λ c κs. search needs)
-    (λ c κs. search needs)
+    (λ c κs. tt)
+    (λ c κs. tt)
+    (λ c κs. tt)
     returns
     returns-2)

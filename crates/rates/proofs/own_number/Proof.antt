@@ -21,7 +21,7 @@ pub own-number-spec : {M : Type 1} → statement M
 own-number-spec =
     tie.close
     (tie.spec
-    (λ c κs. search needs)
+    (λ c κs. tt)
     (λ c. search needs)
     (λ c. search needs)
     add-result

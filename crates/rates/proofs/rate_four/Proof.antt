@@ -6,7 +6,6 @@ use Rattle.schedules.specs.declared.Place.{Place}
 use Rattle.schedules.specs.Columns.{listed}
 use Rattle.units.specs.declared.Rate.{Rate}
 use Rattle.rates.specs.Rates.{atPlace, cellAt, rateFour}
-use borrow.Author.Needs.{needs}
 use Rattle.rates.proofs.rate_four.Statement.{statement}
 use Rattle.rates.proofs.rate_four.Tie as tie
 
@@ -26,7 +25,7 @@ pub rate-four-spec : {M : Type 1} → statement M
 rate-four-spec =
     tie.close
     (tie.spec
-    (λ c κs. search needs)
-    (λ c κs. search needs)
-    (λ c κs. search needs)
+    (λ c κs. tt)
+    (λ c κs. tt)
+    (λ c κs. tt)
     returns)
