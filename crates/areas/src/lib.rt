@@ -1,7 +1,7 @@
 // The entries of an accounting area: A opens it, R files a return, W withdraws it.
 ghost use mathlib.Core.Path.{_≡_};
 ghost use Rattle.text.specs.Fields.{split};
-ghost use Rattle.entries.specs.Rules.{judged, openRule, fileRule, withdrawRule};
+ghost use Rattle.entries.specs.Rules.{parsedBy, openRule, fileRule, withdrawRule};
 ghost use Rattle.areas.specs.Read.{areaYear};
 use entries::Entry;
 use entries::Parsed;
@@ -36,7 +36,7 @@ fn area_and_year(line: &[u8]) -> AreaAndYear
 
 // A,area,opening
 pub fn open_entry(line: &[u8]) -> Parsed
-    ensures { λ r. ⌜ r ≡ judged (openRule (split (now (line .entry)))) ⌝ }
+    ensures { λ r. ⌜ r ≡ parsedBy (openRule (split (now (line .entry)))) ⌝ }
 {
     let read = area_and_year(line);
     let v = read.verdict;
@@ -51,7 +51,7 @@ pub fn open_entry(line: &[u8]) -> Parsed
 
 // R,area,last
 pub fn file_entry(line: &[u8]) -> Parsed
-    ensures { λ r. ⌜ r ≡ judged (fileRule (split (now (line .entry)))) ⌝ }
+    ensures { λ r. ⌜ r ≡ parsedBy (fileRule (split (now (line .entry)))) ⌝ }
 {
     let read = area_and_year(line);
     let v = read.verdict;
@@ -66,7 +66,7 @@ pub fn file_entry(line: &[u8]) -> Parsed
 
 // W,area
 pub fn withdraw_entry(line: &[u8]) -> Parsed
-    ensures { λ r. ⌜ r ≡ judged (withdrawRule (split (now (line .entry)))) ⌝ }
+    ensures { λ r. ⌜ r ≡ parsedBy (withdrawRule (split (now (line .entry)))) ⌝ }
 {
     let places = fields::scan(line);
     let count = places.count;

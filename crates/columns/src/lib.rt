@@ -4,7 +4,7 @@ ghost use Prim.Native.Nat.{_-_, _≤_};
 ghost use lib.ListN.{length, drop, set};
 ghost use lib.Seq.{sets};
 ghost use Rattle.text.specs.Fields.{split};
-ghost use Rattle.entries.specs.Rules.{judged};
+ghost use Rattle.entries.specs.Rules.{parsedBy};
 ghost use Rattle.fields.specs.Places.{placesOf};
 ghost use Rattle.columns.specs.Columns.{kindOf, typeOf, nowhere, placeOf, cellsOf, cellsFound, tenthsAll, columnRule, roomFor, filled};
 use entries::Entry;
@@ -141,7 +141,7 @@ fn all_cells(line: &[u8], places: Places, cells: &mut [u16]) -> Cells
 
 // T,kind,type,cells
 pub fn column_entry(line: &[u8]) -> Parsed
-    ensures { λ r. ⌜ r ≡ judged (columnRule (split (now (line .entry)))) ⌝ }
+    ensures { λ r. ⌜ r ≡ parsedBy (columnRule (split (now (line .entry)))) ⌝ }
 {
     let places = fields::scan(line);
     let count = places.count;

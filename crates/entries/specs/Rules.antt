@@ -28,8 +28,8 @@ parsed Clear e = Taken e
 parsed (TurnedBy r) e = Turned r
 
 -- "The smallest number that applies is given, otherwise none"
-abbrev pub judged : Rule → Parsed
-judged rule = parsed (smallest (rule .cases)) (rule .entry)
+abbrev pub parsedBy : Rule → Parsed
+parsedBy rule = parsed (smallest (rule .cases)) (rule .entry)
 
 -- "1 .. field count"
 abbrev pub miscounted : ℕ → List (List ℕ) → Bool

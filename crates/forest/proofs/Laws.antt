@@ -12,7 +12,7 @@ use Rattle.forest.specs.declared.Region.the-variants.{Auckland, BayOfPle
 use Rattle.forest.specs.declared.Forest.{Forest}
 use Rattle.forest.specs.declared.Forest.the-variants.{Bare, Radiata, DouglasFir, ExoticSoftwoods, ExoticHardwoods, Indigenous}
 use Rattle.forest.specs.declared.Named.the-variants.{Listed, Unlisted}
-use Rattle.forest.specs.Letters.{regionNumber, lettersOf, written, beside, letters, regions, letterNames, regionNames, named}
+use Rattle.forest.specs.Letters.{regionNumber, lettersOf, lettersWritten, beside, letters, regions, letterNames, regionNames, named}
 use Rattle.forest.specs.Order.{orderOf, sameType}
 
 pub nine-regions : (r : Region) → regionNumber r ≤ 9
@@ -63,7 +63,7 @@ no-letters (b ∷ d ∷ []) h e = absurd (e refl)
 no-letters (b ∷ d ∷ f ∷ s) h e = refl
 
 -- what is written is a type's letters
-pub written-letters : (f : Forest) → take (written f .len) (written f .bytes) ≡ lettersOf f
+pub written-letters : (f : Forest) → take (lettersWritten f .len) (lettersWritten f .bytes) ≡ lettersOf f
 unfolding lettersOf
 written-letters Bare = refl
 written-letters (Radiata r) = refl

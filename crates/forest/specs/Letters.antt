@@ -37,13 +37,13 @@ lettersOf ExoticHardwoods = 72 ∷ []
 lettersOf Indigenous = 78 ∷ []
 
 -- the letters in two bytes, the second 0 where there is one letter
-abbrev pub written : Forest → Letters
-written Bare = record { len = 1; bytes = 66 ∷ 0 ∷ [] }
-written (Radiata region) = record { len = 2; bytes = 80 ∷ digitOf region ∷ [] }
-written DouglasFir = record { len = 1; bytes = 68 ∷ 0 ∷ [] }
-written ExoticSoftwoods = record { len = 1; bytes = 83 ∷ 0 ∷ [] }
-written ExoticHardwoods = record { len = 1; bytes = 72 ∷ 0 ∷ [] }
-written Indigenous = record { len = 1; bytes = 78 ∷ 0 ∷ [] }
+abbrev pub lettersWritten : Forest → Letters
+lettersWritten Bare = record { len = 1; bytes = 66 ∷ 0 ∷ [] }
+lettersWritten (Radiata region) = record { len = 2; bytes = 80 ∷ digitOf region ∷ [] }
+lettersWritten DouglasFir = record { len = 1; bytes = 68 ∷ 0 ∷ [] }
+lettersWritten ExoticSoftwoods = record { len = 1; bytes = 83 ∷ 0 ∷ [] }
+lettersWritten ExoticHardwoods = record { len = 1; bytes = 72 ∷ 0 ∷ [] }
+lettersWritten Indigenous = record { len = 1; bytes = 78 ∷ 0 ∷ [] }
 
 -- the type that stands beside a byte in a list
 unfoldable pub beside : ℕ → List (ℕ × Forest) → Named

@@ -1,6 +1,6 @@
 // Forest types: their letters, read and written, and their order.
 ghost use mathlib.Core.Path.{_≡_};
-ghost use Rattle.forest.specs.Letters.{regionNumber, digitOf, written, letterNames, regionNames, named};
+ghost use Rattle.forest.specs.Letters.{regionNumber, digitOf, lettersWritten, letterNames, regionNames, named};
 ghost use Rattle.forest.specs.Order.{orderOf, sameType};
 
 pub enum Region {
@@ -106,7 +106,7 @@ fn digit(region: Region) -> u8
 }
 
 pub fn write(forest: Forest) -> Letters
-    ensures { λ r. ⌜ r ≡ written forest ⌝ }
+    ensures { λ r. ⌜ r ≡ lettersWritten forest ⌝ }
 {
     match forest {
         Forest::Bare => Letters {

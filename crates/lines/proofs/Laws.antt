@@ -16,7 +16,7 @@ use Rattle.refusals.specs.Refusals.{Case, _⇒_, weighed, weighAll, smallest}
 use Rattle.refusals.proofs.Smallest.{turned-stands}
 use Rattle.entries.specs.declared.Parsed.{Parsed}
 use Rattle.entries.specs.declared.Parsed.the-variants.{Turned}
-use Rattle.entries.specs.Rules.{parsed, judged}
+use Rattle.entries.specs.Rules.{parsed, parsedBy}
 use Rattle.lines.specs.Lines.{bodyOf, holdsEnd, longest, letterOf, noRule, ruleOf, lineRule, conditions, entryOf}
 
 module _ (line : List ℕ) (n : ℕ) (e : n ≡ length line) where
@@ -74,14 +74,14 @@ letter-longer (b ∷ []) h e = absurd (omega arith)
 letter-longer (b ∷ c ∷ s) h e = simp (ne-eqb c 44 e)
 
 -- the rule of a letter that is known
-pub rule-known : (s : List ℕ) (l b : ℕ) (x : Parsed) → l ≡ letterOf s → l ≡ b → x ≡ judged (ruleOf b (split s)) → x ≡ judged (lineRule s)
+pub rule-known : (s : List ℕ) (l b : ℕ) (x : Parsed) → l ≡ letterOf s → l ≡ b → x ≡ parsedBy (ruleOf b (split s)) → x ≡ parsedBy (lineRule s)
 unfolding lineRule
-rule-known s l b x e k h = h ∙ ap (λ (n : ℕ). judged (ruleOf n (split s))) (sym k ∙ e)
+rule-known s l b x e k h = h ∙ ap (λ (n : ℕ). parsedBy (ruleOf n (split s))) (sym k ∙ e)
 
 -- a letter that has no rule
-pub rule-unknown : (s : List ℕ) (l : ℕ) → l ≡ letterOf s → ruleOf l (split s) ≡ noRule → Turned Form ≡ judged (lineRule s)
+pub rule-unknown : (s : List ℕ) (l : ℕ) → l ≡ letterOf s → ruleOf l (split s) ≡ noRule → Turned Form ≡ parsedBy (lineRule s)
 unfolding lineRule noRule parsed smallest weighAll weighed
-rule-unknown s l e q = sym (ap judged (ap (λ (n : ℕ). ruleOf n (split s)) (sym e) ∙ q))
+rule-unknown s l e q = sym (ap parsedBy (ap (λ (n : ℕ). ruleOf n (split s)) (sym e) ∙ q))
 
 -- a case that applies, where none before it does
 first-applies : (cs : List Case) (t : Bool) → t ≡ true → smallest (t ⇒ Form ∷ cs) ≡ TurnedBy Form
@@ -105,6 +105,6 @@ module _ (line s : List ℕ) (e : s ≡ bodyOf line) where
   unfolding conditions
   broken h q = refused (first-passed _ _ (le-ltb longest (length s) h) ∙ first-applies _ _ q)
 
-  pub whole : (x : Parsed) → length s ≤ longest → holdsEnd s ≡ false → x ≡ judged (lineRule s) → x ≡ entryOf line
+  pub whole : (x : Parsed) → length s ≤ longest → holdsEnd s ≡ false → x ≡ parsedBy (lineRule s) → x ≡ entryOf line
   unfolding entryOf conditions
   whole x h q r = r ∙ rw (sym e) (ap (λ (v : Verdict). parsed v (lineRule s .entry)) (sym (first-passed _ _ (le-ltb longest (length s) h) ∙ first-passed _ _ q)))

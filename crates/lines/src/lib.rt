@@ -1,7 +1,7 @@
 // A line, with its end or without, to an entry or a refusal.
 ghost use mathlib.Core.Path.{_≡_};
 ghost use Rattle.text.specs.Fields.{split};
-ghost use Rattle.entries.specs.Rules.{judged};
+ghost use Rattle.entries.specs.Rules.{parsedBy};
 ghost use Rattle.columns.specs.Columns.{roomFor, filled};
 ghost use Rattle.lines.specs.Lines.{bodyOf, holdsEnd, letterOf, lineRule, entryOf};
 use entries::Parsed;
@@ -54,7 +54,7 @@ fn letter(body: &[u8]) -> u8
 }
 
 fn by_letter(body: &[u8]) -> Parsed
-    ensures { λ r. ⌜ r ≡ judged (lineRule (now (body .entry))) ⌝ }
+    ensures { λ r. ⌜ r ≡ parsedBy (lineRule (now (body .entry))) ⌝ }
 {
     match letter(body) {
         84 => columns::column_entry(body),

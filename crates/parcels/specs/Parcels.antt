@@ -26,8 +26,8 @@ unfoldable pub countedOf : Parcel → Clearing
 countedOf p = countingOf (ownClearing p) (earlierOf p)
 
 -- "3 type (B too in a .. parcel)"
-abbrev pub isBare : Clearing → Bool
-isBare c = sameType (c .forest) Bare
+abbrev pub clearsBare : Clearing → Bool
+clearsBare c = sameType (c .forest) Bare
 
 -- "other years are 1900 to 2199"
 abbrev pub offYears : ℕ → Bool
@@ -43,7 +43,7 @@ misordered last c = ltb (c .cleared) (c .planted) || ltb last (c .cleared)
 -- what is wrong with some clearing, the parcel's own and the earlier ones judged alike
 unfoldable pub amissOf : Clearing → List Clearing → Amiss
 amissOf own earlier = record {
-  bare = some isBare (own ∷ earlier);
+  bare = some clearsBare (own ∷ earlier);
   years = some outOfYears (own ∷ earlier);
   order = some (misordered (own .cleared)) (own ∷ earlier);
 }

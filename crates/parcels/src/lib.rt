@@ -3,7 +3,7 @@ use clearings::Clearing;
 use forest::Forest;
 ghost use mathlib.Core.Path.{_≡_};
 ghost use lib.ListN.{take};
-ghost use Rattle.parcels.specs.Parcels.{ownClearing, countedOf, isBare, offYears, outOfYears, misordered, amissOf, faultsOf};
+ghost use Rattle.parcels.specs.Parcels.{ownClearing, countedOf, clearsBare, offYears, outOfYears, misordered, amissOf, faultsOf};
 
 // Hectares are ten-thousandths; the earlier clearings are the first `count`.
 pub struct Parcel {
@@ -51,8 +51,8 @@ pub fn counted(p: Parcel) -> Clearing
     clearings::counting(own_clearing(p), earlier, count)
 }
 
-fn is_bare(c: Clearing) -> bool
-    ensures { λ r. ⌜ r ≡ isBare c ⌝ }
+fn clears_bare(c: Clearing) -> bool
+    ensures { λ r. ⌜ r ≡ clearsBare c ⌝ }
 {
     let forest = c.forest;
     forest::same(forest, Forest::Bare)
@@ -80,7 +80,7 @@ fn find_amiss(own: Clearing, earlier: [Clearing; 4], count: usize) -> Amiss
     ensures { λ r. ⌜ r ≡ amissOf own (take count earlier) ⌝ }
 {
     let last = own.cleared;
-    let mut bare = is_bare(own);
+    let mut bare = clears_bare(own);
     let mut years = out_of_years(own);
     let mut order = is_misordered(last, own);
     let mut i: usize = 0;
@@ -89,7 +89,7 @@ fn find_amiss(own: Clearing, earlier: [Clearing; 4], count: usize) -> Amiss
             return Amiss { bare, years, order };
         }
         let c = earlier[i];
-        bare = bare | is_bare(c);
+        bare = bare | clears_bare(c);
         years = years | out_of_years(c);
         order = order | is_misordered(last, c);
         i += 1;

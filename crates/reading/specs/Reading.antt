@@ -27,8 +27,8 @@ most16 = 65535
 abbrev pub most32 : ℕ
 most32 = 4294967295
 
-abbrev pub most64 : ℕ
-most64 = 999999999999999
+abbrev pub mostRead : ℕ
+mostRead = 999999999999999
 
 unfoldable pub residueAt : List ℕ → ℕ → ResidueRead
 residueAt s at =
@@ -78,9 +78,9 @@ unfoldable pub amountsAt : List ℕ → ℕ → AmountsRead
 amountsAt s at =
     let withdrawn = numberAt s at 44 1 in
     let returns = numberAt s (withdrawn .next) 44 most16 in
-    let stock = numberAt s (returns .next) 44 most64 in
-    let received = numberAt s (stock .next) 44 most64 in
-    let surrendered = numberAt s (received .next) 44 most64 in
+    let stock = numberAt s (returns .next) 44 mostRead in
+    let received = numberAt s (stock .next) 44 mostRead in
+    let surrendered = numberAt s (received .next) 44 mostRead in
     record {
       withdrawn = eqb (withdrawn .value) 1;
       returns = returns .value;

@@ -16,7 +16,7 @@ const MOST16: u64 = 65535;
 
 const MOST32: u64 = 4294967295;
 
-const MOST64: u64 = 999999999999999;
+const MOST_READ: u64 = 999999999999999;
 
 pub struct ResidueRead {
     pub residue: Residue,
@@ -144,9 +144,9 @@ fn read_amounts(s: &[u8], at: usize) -> AmountsRead
 {
     let withdrawn = cursor::number(s, at, 44, 1);
     let returns = cursor::number(s, withdrawn.next, 44, MOST16);
-    let stock = cursor::number(s, returns.next, 44, MOST64);
-    let received = cursor::number(s, stock.next, 44, MOST64);
-    let surrendered = cursor::number(s, received.next, 44, MOST64);
+    let stock = cursor::number(s, returns.next, 44, MOST_READ);
+    let received = cursor::number(s, stock.next, 44, MOST_READ);
+    let surrendered = cursor::number(s, received.next, 44, MOST_READ);
     AmountsRead {
         withdrawn: withdrawn.value == 1,
         returns: returns.value as u16,

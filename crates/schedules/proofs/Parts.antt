@@ -9,7 +9,7 @@ use Rattle.forest.specs.Order.{orderOf}
 use Rattle.schedules.specs.declared.Kind.{Kind}
 use Rattle.schedules.specs.declared.Kind.the-variants.{Stock, Residue}
 use Rattle.schedules.specs.declared.Place.{Place}
-use Rattle.schedules.specs.Columns.{Column, noColumn, joined, nowhere, placesFrom}
+use Rattle.schedules.specs.Columns.{Column, noColumn, joined, noPlace, placesFrom}
 use Rattle.schedules.specs.Cells.{stock4, stock6, residue6}
 use Rattle.schedules.specs.Schedules.{schedule4, schedule6, columnFour, columnSix, placeFour, placeSix}
 
@@ -18,14 +18,14 @@ pub record Holds (cells : List ℕ) (p : Place) (c : Column) : Type 0 where
   pub part : take (p .len) (drop (p .start) cells) ≡ c .cells
   pub first : p .first ≡ c .first
 
-nowhere-holds : (cells : List ℕ) → Holds cells nowhere noColumn
-nowhere-holds cells = record { part = refl; first = refl }
+none-holds : (cells : List ℕ) → Holds cells noPlace noColumn
+none-holds cells = record { part = refl; first = refl }
 
 -- each column stands at its place, behind the cells that come before
 each-holds : (before after : List ℕ) (cs : List Column) (at k : ℕ) → length before ≡ at
-    → Holds (before ++ (joined cs ++ after)) (getD (placesFrom at cs) k nowhere) (getD cs k noColumn)
+    → Holds (before ++ (joined cs ++ after)) (getD (placesFrom at cs) k noPlace) (getD cs k noColumn)
 unfolding joined placesFrom
-each-holds before after [] at k e = nowhere-holds _
+each-holds before after [] at k e = none-holds _
 each-holds before after (c ∷ cs) at zero e = record { part = rw (append-assoc (c .cells) (joined cs) after) (ap (take (length (c .cells))) (drop-at before _ at e) ∙ take-append-seam (c .cells) _); first = refl }
 each-holds before after (c ∷ cs) at (suc k) e =
     rw (append-assoc (c .cells) (joined cs) after, ← append-assoc before (c .cells) (joined cs ++ after))
@@ -33,8 +33,8 @@ each-holds before after (c ∷ cs) at (suc k) e =
 
 -- the same with bare land in front, as the types go
 type-holds : (before after : List ℕ) (cs : List Column) (at k : ℕ) → length before ≡ at
-    → Holds (before ++ (joined cs ++ after)) (getD (nowhere ∷ placesFrom at cs) k nowhere) (getD (noColumn ∷ cs) k noColumn)
-type-holds before after cs at zero e = nowhere-holds _
+    → Holds (before ++ (joined cs ++ after)) (getD (noPlace ∷ placesFrom at cs) k noPlace) (getD (noColumn ∷ cs) k noColumn)
+type-holds before after cs at zero e = none-holds _
 type-holds before after cs at (suc k) e = each-holds before after cs at k e
 
 pub six-holds : (kind : Kind) (forest : Forest) → Holds schedule6 (placeSix kind forest) (columnSix kind forest)

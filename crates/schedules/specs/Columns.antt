@@ -20,8 +20,8 @@ unfoldable pub joined : List Column → List ℕ
 joined [] = []
 joined (c ∷ cs) = c .cells ++ joined cs
 
-abbrev pub nowhere : Place
-nowhere = record { start = 0; len = 0; first = 0 }
+abbrev pub noPlace : Place
+noPlace = record { start = 0; len = 0; first = 0 }
 
 -- each column's place among the joined cells, the first of them standing at `at`
 unfoldable pub placesFrom : ℕ → List Column → List Place

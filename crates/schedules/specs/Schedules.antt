@@ -7,7 +7,7 @@ use Rattle.forest.specs.Order.{orderOf}
 use Rattle.schedules.specs.declared.Kind.{Kind}
 use Rattle.schedules.specs.declared.Kind.the-variants.{Stock, Residue}
 use Rattle.schedules.specs.declared.Place.{Place}
-use Rattle.schedules.specs.Columns.{Column, noColumn, joined, nowhere, placesFrom}
+use Rattle.schedules.specs.Columns.{Column, noColumn, joined, noPlace, placesFrom}
 use Rattle.schedules.specs.Cells.{stock4, stock6, residue6}
 
 -- "The default cells are at most 30,000 tenths each"
@@ -22,23 +22,23 @@ unfoldable pub schedule6 : List ℕ
 schedule6 = joined stock6 ++ joined residue6
 
 -- the column of a type; bare land has none
-abbrev pub columnOf : List Column → Forest → Column
-columnOf columns forest = getD (noColumn ∷ columns) (orderOf forest) noColumn
+abbrev pub columnIn : List Column → Forest → Column
+columnIn columns forest = getD (noColumn ∷ columns) (orderOf forest) noColumn
 
 unfoldable pub columnFour : Forest → Column
-columnFour forest = columnOf stock4 forest
+columnFour forest = columnIn stock4 forest
 
 unfoldable pub columnSix : Kind → Forest → Column
-columnSix Stock forest = columnOf stock6 forest
-columnSix Residue forest = columnOf residue6 forest
+columnSix Stock forest = columnIn stock6 forest
+columnSix Residue forest = columnIn residue6 forest
 
 -- where that column stands in the schedule's cells
-abbrev pub placeOf : List Place → Forest → Place
-placeOf places forest = getD (nowhere ∷ places) (orderOf forest) nowhere
+abbrev pub placeIn : List Place → Forest → Place
+placeIn places forest = getD (noPlace ∷ places) (orderOf forest) noPlace
 
 unfoldable pub placeFour : Forest → Place
-placeFour forest = placeOf (placesFrom 0 stock4) forest
+placeFour forest = placeIn (placesFrom 0 stock4) forest
 
 unfoldable pub placeSix : Kind → Forest → Place
-placeSix Stock forest = placeOf (placesFrom 0 stock6) forest
-placeSix Residue forest = placeOf (placesFrom (length (joined stock6)) residue6) forest
+placeSix Stock forest = placeIn (placesFrom 0 stock6) forest
+placeSix Residue forest = placeIn (placesFrom (length (joined stock6)) residue6) forest

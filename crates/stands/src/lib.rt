@@ -1,7 +1,7 @@
 // The entries of a sub-area's stand: C clears it, P plants it.
 ghost use mathlib.Core.Path.{_≡_};
 ghost use Rattle.text.specs.Fields.{split};
-ghost use Rattle.entries.specs.Rules.{judged, clearRule, plantRule};
+ghost use Rattle.entries.specs.Rules.{parsedBy, clearRule, plantRule};
 use entries::Entry;
 use entries::Parsed;
 use refusals::Refusal;
@@ -9,7 +9,7 @@ use refusals::Verdict;
 
 // C,area,sub,year
 pub fn clear_entry(line: &[u8]) -> Parsed
-    ensures { λ r. ⌜ r ≡ judged (clearRule (split (now (line .entry)))) ⌝ }
+    ensures { λ r. ⌜ r ≡ parsedBy (clearRule (split (now (line .entry)))) ⌝ }
 {
     let places = fields::scan(line);
     let count = places.count;
@@ -35,7 +35,7 @@ pub fn clear_entry(line: &[u8]) -> Parsed
 
 // P,area,sub,type,year
 pub fn plant_entry(line: &[u8]) -> Parsed
-    ensures { λ r. ⌜ r ≡ judged (plantRule (split (now (line .entry)))) ⌝ }
+    ensures { λ r. ⌜ r ≡ parsedBy (plantRule (split (now (line .entry)))) ⌝ }
 {
     let places = fields::scan(line);
     let count = places.count;

@@ -1,7 +1,7 @@
 // The entry of a sub-area: S adds it.
 ghost use mathlib.Core.Path.{_≡_};
 ghost use Rattle.text.specs.Fields.{split};
-ghost use Rattle.entries.specs.Rules.{judged, addRule};
+ghost use Rattle.entries.specs.Rules.{parsedBy, addRule};
 use entries::Entry;
 use entries::Parsed;
 use refusals::Refusal;
@@ -14,7 +14,7 @@ const MOST_HECTARES: u64 = 100000000;
 
 // S,area,sub,hectares,type,planted
 pub fn add_entry(line: &[u8]) -> Parsed
-    ensures { λ r. ⌜ r ≡ judged (addRule (split (now (line .entry)))) ⌝ }
+    ensures { λ r. ⌜ r ≡ parsedBy (addRule (split (now (line .entry)))) ⌝ }
 {
     let places = fields::scan(line);
     let count = places.count;

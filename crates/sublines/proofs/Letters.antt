@@ -7,7 +7,7 @@ use lib.ListN.{length, take}
 use Rattle.forest.specs.declared.Forest.{Forest}
 use Rattle.forest.specs.declared.Forest.the-variants.{Bare, Radiata, DouglasFir, ExoticSoftwoods, ExoticHardwoods, Indigenous}
 use Rattle.forest.specs.declared.Letters.{Letters}
-use Rattle.forest.specs.Letters.{lettersOf, written}
+use Rattle.forest.specs.Letters.{lettersOf, lettersWritten}
 use Rattle.forest.proofs.Laws.{written-letters}
 
 pub two-letters : (f : Forest) → length (lettersOf f) ≤ 2
@@ -19,10 +19,10 @@ two-letters ExoticSoftwoods = omega arith
 two-letters ExoticHardwoods = omega arith
 two-letters Indigenous = omega arith
 
-pub letters-fit : (f : Forest) (x : Letters) → x ≡ written f → x .len ≤ length (x .bytes)
+pub letters-fit : (f : Forest) (x : Letters) → x ≡ lettersWritten f → x .len ≤ length (x .bytes)
 letters-fit f x e = rw e (fit f)
   where
-    fit : (g : Forest) → written g .len ≤ length (written g .bytes)
+    fit : (g : Forest) → lettersWritten g .len ≤ length (lettersWritten g .bytes)
     fit Bare = omega arith
     fit (Radiata r) = omega arith
     fit DouglasFir = omega arith
@@ -30,5 +30,5 @@ letters-fit f x e = rw e (fit f)
     fit ExoticHardwoods = omega arith
     fit Indigenous = omega arith
 
-pub letters-are : (f : Forest) (x : Letters) → x ≡ written f → take (x .len - 0) (x .bytes) ≡ lettersOf f
+pub letters-are : (f : Forest) (x : Letters) → x ≡ lettersWritten f → take (x .len - 0) (x .bytes) ≡ lettersOf f
 letters-are f x e = simp unary-clauses (rw e (written-letters f))

@@ -15,7 +15,7 @@ use Rattle.keeping.proofs.Within.{within, year-within, land-within}
 use Rattle.keeping.proofs.Register.{Register, register-so}
 use Rattle.keeping.proofs.Subs.{SubKept}
 use Rattle.keeping.proofs.Areas.{areaNumber, subNumber, AreaKept, kept-areas}
-use Rattle.reading.specs.Reading.{most8, most16, most32, most64}
+use Rattle.reading.specs.Reading.{most8, most16, most32, mostRead}
 
 pub record SubFits (sub : Sub) : Type 0 where
   pub number : sub .number ≤ most8
@@ -30,9 +30,9 @@ pub record AreaFits (area : Area) : Type 0 where
   pub open-year : area .«open_year» ≤ most16
   pub latest : area .latest ≤ most16
   pub returns : area .returns ≤ most16
-  pub stock : area .stock .0 ≤ most64
-  pub received : area .received ≤ most64
-  pub surrendered : area .surrendered ≤ most64
+  pub stock : area .stock .0 ≤ mostRead
+  pub received : area .received ≤ mostRead
+  pub surrendered : area .surrendered ≤ mostRead
   pub subs : Register subNumber emptySub SubFits mostSubs (area .count) (area .subs)
 
 latest-small : (y : ℕ) → (eqb y 0 || isYear y) ≡ true → y ≤ lastYear
@@ -65,7 +65,7 @@ area-fits area kept =
     let latest : area .latest ≤ lastYear = latest-small (area .latest) (years .changed) in
     let count : area .count ≤ mostSubs = kept .subs .room in
     let returns : area .returns ≤ 2200 = omega (arith, years .ends, years .yearly) in
-    let received : area .received ≤ most64 = omega (arith, amounts .earned) in
+    let received : area .received ≤ mostRead = omega (arith, amounts .earned) in
     record {
       number = omega (arith, within 1 (area .number) lastArea (kept .fields .number) .1);
       opening = omega arith;

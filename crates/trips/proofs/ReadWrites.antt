@@ -9,7 +9,7 @@ use lib.ListN.{take}
 use Rattle.holding.specs.Holding.{mostAreas, mostSubs, emptySub, emptyArea}
 use Rattle.format.specs.Format.{numberText, joined, texts, flag, residueText, subText, yearsText, amountsText, areaText, statementOf}
 use Rattle.cursor.specs.Cursor.{numberAt}
-use Rattle.reading.specs.Reading.{most8, most16, most32, most64, residueAt, subAt, subsFrom, subsAt, yearsAt, amountsAt, areaAt, areasFrom, areasAt, holdingAt}
+use Rattle.reading.specs.Reading.{most8, most16, most32, mostRead, residueAt, subAt, subsFrom, subsAt, yearsAt, amountsAt, areaAt, areasFrom, areasAt, holdingAt}
 use Rattle.keeping.specs.Tidy.{TidyArea, TidyHolding}
 use Rattle.trips.proofs.Places.{Stands, There, stands-none, stands-then}
 use Rattle.trips.proofs.Values.{number-there, number-small, type-there}
@@ -69,9 +69,9 @@ module _ (s : List ℕ) (at : ℕ) where
   area-there h =
       let subs = subs-there s _ _ (number-small s _ 10 mostSubs) h in
       let count = number-there s _ 10 mostSubs (subs .started) in
-      let surrendered = number-there s _ 44 most64 (count .started) in
-      let received = number-there s _ 44 most64 (surrendered .started) in
-      let stock = number-there s _ 44 most64 (received .started) in
+      let surrendered = number-there s _ 44 mostRead (count .started) in
+      let received = number-there s _ 44 mostRead (surrendered .started) in
+      let stock = number-there s _ 44 mostRead (received .started) in
       let returns = number-there s _ 44 most16 (stock .started) in
       let withdrawn = flag-there s _ (returns .started) in
       let latest = number-there s _ 44 most16 (withdrawn .started) in

@@ -19,12 +19,12 @@ use Rattle.forest.proofs.Laws.{letters-name, only-letters-name}
 use Rattle.format.specs.Format.{numberText, typeText}
 use Rattle.cursor.specs.declared.NumberField.{NumberField}
 use Rattle.cursor.specs.Cursor.{noNumber, noType, numberBefore, numberAt, typeBefore, typeAt}
-use Rattle.reading.specs.Reading.{most64}
+use Rattle.reading.specs.Reading.{mostRead}
 use Rattle.trips.proofs.Places.{Stands, There}
 use Rattle.trips.proofs.Widths.{high-digits, high-letters}
 use Rattle.trips.proofs.Fields.{field-here, field-there}
 
-pub number-here : {s : List ℕ} {at end n next : ℕ} (most : ℕ) → 0 < at → end < 48 → n ≤ most → most ≤ most64 → Stands s at (numberText n end) next
+pub number-here : {s : List ℕ} {at end n next : ℕ} (most : ℕ) → 0 < at → end < 48 → n ≤ most → most ≤ mostRead → Stands s at (numberText n end) next
     → numberAt s at end most ≡ record { value = n; next = next }
 unfolding numberAt numberText numberBefore
 number-here {s} {at} {end} {n} {next} most started low small room stands =

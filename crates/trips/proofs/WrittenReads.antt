@@ -15,7 +15,7 @@ use Rattle.format.specs.Format.{startText, numberText, typeText, texts, flag, r
 use Rattle.reading.specs.declared.SubRead.{SubRead}
 use Rattle.reading.specs.declared.AmountsRead.{AmountsRead}
 use Rattle.reading.specs.declared.AreaRead.{AreaRead}
-use Rattle.reading.specs.Reading.{most8, most16, most32, most64, residueAt, subAt, subsFrom, subsAt, yearsAt, amountsAt, areaAt, areasFrom, areasAt, holdingAt}
+use Rattle.reading.specs.Reading.{most8, most16, most32, mostRead, residueAt, subAt, subsFrom, subsAt, yearsAt, amountsAt, areaAt, areasFrom, areasAt, holdingAt}
 use Rattle.keeping.specs.Kept.{Kept}
 use Rattle.keeping.proofs.Register.{Register}
 use Rattle.keeping.proofs.Areas.{areaNumber, subNumber}
@@ -118,9 +118,9 @@ module _ (s : List ℕ) (at last : ℕ) (area : Area) (fits : AreaFits area) (st
       let p4 = piece-rest p3 in
       let e0 = number-here 1 started (omega arith) (flag-small (area .withdrawn)) (omega arith) (piece-first p0) in
       let e1 = number-here most16 (omega arith) (omega arith) (fits .returns) (omega arith) (piece-first p1) in
-      let e2 = number-here most64 (omega arith) (omega arith) (fits .stock) (omega arith) (piece-first p2) in
-      let e3 = number-here most64 (omega arith) (omega arith) (fits .received) (omega arith) (piece-first p3) in
-      let e4 = number-here most64 (omega arith) (omega arith) (fits .surrendered) (omega arith) (piece-first p4) in
+      let e2 = number-here mostRead (omega arith) (omega arith) (fits .stock) (omega arith) (piece-first p2) in
+      let e3 = number-here mostRead (omega arith) (omega arith) (fits .received) (omega arith) (piece-first p3) in
+      let e4 = number-here mostRead (omega arith) (omega arith) (fits .surrendered) (omega arith) (piece-first p4) in
       simp (e0, e1, e2, e3, e4, flag-read) (ap amountsTo (piece-last (piece-rest p4)))
 
 module _ (s : List ℕ) (at last : ℕ) where

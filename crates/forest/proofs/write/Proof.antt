@@ -4,7 +4,7 @@ use borrow.Author.Needs.{needs}
 use Prim.Native.Nat.{ℕ}
 use mathlib.Core.List.{[], _∷_}
 use Rattle.forest.specs.declared.Letters.{Letters}
-use Rattle.forest.specs.Letters.{written}
+use Rattle.forest.specs.Letters.{lettersWritten}
 use Rattle.forest.proofs.write.Statement.{statement}
 use Rattle.forest.proofs.write.Tie as tie
 
@@ -22,9 +22,9 @@ write-spec =
     (λ c. search needs)
     (λ c. search needs)
     (λ c. search needs)
-    (λ c. sym (ap written (c .enum-told .given .1)))
-    (λ c. ap radiata (c .digit .ensures) ∙ sym (ap written (c .before .before .forest .given .1)))
-    (λ c. sym (ap written (c .enum-told2 .given .1)))
-    (λ c. sym (ap written (c .enum-told3 .given .1)))
-    (λ c. sym (ap written (c .enum-told4 .given .1)))
-    (λ c. sym (ap written (c .enum-told5 .given .1))))
+    (λ c. sym (ap lettersWritten (c .enum-told .given .1)))
+    (λ c. ap radiata (c .digit .ensures) ∙ sym (ap lettersWritten (c .before .before .forest .given .1)))
+    (λ c. sym (ap lettersWritten (c .enum-told2 .given .1)))
+    (λ c. sym (ap lettersWritten (c .enum-told3 .given .1)))
+    (λ c. sym (ap lettersWritten (c .enum-told4 .given .1)))
+    (λ c. sym (ap lettersWritten (c .enum-told5 .given .1))))

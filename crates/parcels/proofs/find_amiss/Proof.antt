@@ -8,14 +8,14 @@ use lib.ListN.{length, take, drop}
 use Rattle.laws.specs.Elements.{some}
 use Rattle.laws.proofs.Standing.{as-long}
 use Rattle.laws.proofs.Turns.{some-end, some-out, some-more}
-use Rattle.parcels.specs.Parcels.{isBare, outOfYears, misordered}
+use Rattle.parcels.specs.Parcels.{clearsBare, outOfYears, misordered}
 use Rattle.parcels.proofs.Found.{all-found}
 use Rattle.parcels.proofs.find_amiss.Statement.{statement}
 use Rattle.parcels.proofs.find_amiss.Tie as tie
 
 abbrev Inv-loop : tie.InvT-loop
 Inv-loop count earlier last bare₀ years₀ order₀ i₀ bare years order i =
-    ((bare || some isBare (drop i (take count earlier))) ≡ (bare₀ || some isBare (take count earlier)))
+    ((bare || some clearsBare (drop i (take count earlier))) ≡ (bare₀ || some clearsBare (take count earlier)))
     × ((years || some outOfYears (drop i (take count earlier))) ≡ (years₀ || some outOfYears (take count earlier)))
     × ((order || some (misordered last) (drop i (take count earlier))) ≡ (order₀ || some (misordered last) (take count earlier)))
 
@@ -29,7 +29,7 @@ returns : tie.Need-returns Inv-loop μ-loop
 returns c =
     let v = c .before .before .loop .inv in
     let o = c .before .before .before in
-    all-found _ _ _ _ _ _ _ _ (o .before .before .is-bare .ensures) (o .before .out-of-years .ensures) (o .is-misordered .ensures)
+    all-found _ _ _ _ _ _ _ _ (o .before .before .clears-bare .ensures) (o .before .out-of-years .ensures) (o .is-misordered .ensures)
     (some-end _ _ _ _ _ _ (v .0) (c .if1 .taken))
     (some-end _ _ _ _ _ _ (v .1) (c .if1 .taken))
     (some-end _ _ _ _ _ _ (v .2) (c .if1 .taken))
@@ -44,7 +44,7 @@ loop-again c =
     let v = b .loop .inv in
     let stands = c .before .before .before .before .if1 .left in
     let held : i < length l = omega (arith, long s) in (
-      some-more isBare l n i (b .loop .bare) _ (v .0) _ _ stands held (c .before .before .is-bare2 .ensures),
+      some-more clearsBare l n i (b .loop .bare) _ (v .0) _ _ stands held (c .before .before .clears-bare2 .ensures),
       some-more outOfYears l n i (b .loop .years) _ (v .1) _ _ stands held (c .before .out-of-years2 .ensures),
       some-more (misordered (s .args .own .cleared)) l n i (b .loop .order) _ (v .2) _ _ stands held (c .is-misordered2 .ensures),
     )
@@ -59,8 +59,8 @@ returns-2 c =
     let i = b .loop .i in
     let v = b .loop .inv in
     let out : length l ≤ i = omega (arith, long s) in
-    all-found _ _ _ _ _ _ _ _ (o .before .before .is-bare .ensures) (o .before .out-of-years .ensures) (o .is-misordered .ensures)
-    (some-out isBare l n i (b .loop .bare) _ (v .0) out)
+    all-found _ _ _ _ _ _ _ _ (o .before .before .clears-bare .ensures) (o .before .out-of-years .ensures) (o .is-misordered .ensures)
+    (some-out clearsBare l n i (b .loop .bare) _ (v .0) out)
     (some-out outOfYears l n i (b .loop .years) _ (v .1) out)
     (some-out (misordered (s .args .own .cleared)) l n i (b .loop .order) _ (v .2) out)
 

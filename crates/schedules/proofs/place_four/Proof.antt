@@ -6,7 +6,7 @@ use lib.ListN.{getD}
 use native.Mathlib.Omega.{arith}
 use borrow.Author.Needs.{needs}
 use Rattle.forest.proofs.Laws.{thirteen-types}
-use Rattle.schedules.specs.Columns.{nowhere, placesFrom}
+use Rattle.schedules.specs.Columns.{noPlace, placesFrom}
 use Rattle.schedules.specs.Cells.{stock4}
 use Rattle.schedules.specs.Schedules.{placeFour}
 use Rattle.schedules.proofs.place_four.Statement.{statement}
@@ -23,7 +23,7 @@ array-copy-out-result c = omega (arith, thirteen-types (c .before .args .forest)
 
 returns : tie.Need-returns
 unfolding placeFour placesFrom stock4
-returns c = ap (λ (k : ℕ). getD (nowhere ∷ placesFrom 0 stock4) k nowhere) (c .before .order .ensures)
+returns c = ap (λ (k : ℕ). getD (noPlace ∷ placesFrom 0 stock4) k noPlace) (c .before .order .ensures)
 
 pub place-four-spec : {M : Type 1} → statement M
 place-four-spec = tie.close (tie.spec order-requires mul-result array-copy-out-result returns)
