@@ -1,4 +1,5 @@
 // Lists the book on standard input.
+use books::ROOM;
 use libc::STDIN_FILENO;
 use libc::STDOUT_FILENO;
 
@@ -7,8 +8,8 @@ fn room_for_book() -> [u8; 65537] {
     [0u8; 65537]
 }
 
-fn room_for_listing() -> [u8; 720921] {
-    [0u8; 720921]
+fn room_for_listing() -> [u8; ROOM] {
+    [0u8; ROOM]
 }
 
 fn main() {

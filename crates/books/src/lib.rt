@@ -9,7 +9,7 @@ use answers::Written;
 use refusals::Refusal;
 
 // Room for any listing, in bytes.
-const ROOM: usize = 720921;
+pub const ROOM: usize = 720921;
 
 // Writes the listing to the front of `out`, in which there is room for any listing: how many bytes it has.
 pub fn list_whole(book: &[u8], out: &mut [u8; ROOM]) -> usize

@@ -6,13 +6,24 @@ use lib.Dec.{leb, ltb}
 use Rattle.laws.specs.Elements.{keep, outranks}
 use Rattle.clearings.specs.declared.Clearing.{Clearing}
 
+-- "up to four earlier clearings"
+abbrev pub mostEarlier : ℕ
+mostEarlier = 4
+
+-- "Under nine years"; "no trees of nine years"
+abbrev pub leastAge : ℕ
+leastAge = 9
+
+abbrev pub window : ℕ
+window = 9
+
 -- "Age is cleared less planted."
 abbrev pub ageOf : Clearing → ℕ
 ageOf c = c .cleared - c .planted
 
 -- "at most nine years before its own"
 abbrev pub within : Clearing → Clearing → Bool
-within own c = leb (c .cleared) (own .cleared) && leb (own .cleared) (c .cleared + 9)
+within own c = leb (c .cleared) (own .cleared) && leb (own .cleared) (c .cleared + window)
 
 -- "the oldest trees ..; on a tie the later cleared"
 abbrev pub older : Clearing → Clearing → Bool
@@ -24,4 +35,4 @@ elder best c = cond (older c best) c best
 
 -- "Under nine years, the oldest trees among itself and the clearings at most nine years before its own count"
 unfoldable pub countingOf : Clearing → List Clearing → Clearing
-countingOf own earlier = cond (leb 9 (ageOf own)) own (foldl elder own (keep (within own) earlier))
+countingOf own earlier = cond (leb leastAge (ageOf own)) own (foldl elder own (keep (within own) earlier))

@@ -5,6 +5,14 @@ ghost use mathlib.Core.Bool.{cond};
 ghost use lib.ListN.{take};
 ghost use Rattle.clearings.specs.Counting.{ageOf, within, older, elder, countingOf};
 
+pub const MOST_EARLIER: usize = 4;
+
+// Trees count by themselves from this age on, in years.
+pub const LEAST_AGE: u16 = 9;
+
+// How many years before another a clearing counts.
+const WINDOW: u32 = 9;
+
 pub struct Clearing {
     pub forest: Forest,
     pub planted: u16,
@@ -26,7 +34,7 @@ pub fn age(c: Clearing) -> u16
 fn is_within(own: Clearing, c: Clearing) -> bool
     ensures { λ r. ⌜ r ≡ within own c ⌝ }
 {
-    (c.cleared <= own.cleared) & (own.cleared as u32 <= c.cleared as u32 + 9)
+    (c.cleared <= own.cleared) & (own.cleared as u32 <= c.cleared as u32 + WINDOW)
 }
 
 fn is_older(c: Clearing, best: Clearing) -> bool
@@ -51,15 +59,15 @@ fn set_against(own: Clearing, best: Clearing, c: Clearing) -> Clearing
 }
 
 // The clearing whose trees count, of one and the first `count` earlier ones.
-pub fn counting(own: Clearing, earlier: [Clearing; 4], count: usize) -> Clearing
+pub fn counting(own: Clearing, earlier: [Clearing; MOST_EARLIER], count: usize) -> Clearing
     ensures { λ r. ⌜ r ≡ countingOf own (take count earlier) ⌝ }
 {
-    if 9 <= age(own) {
+    if LEAST_AGE <= age(own) {
         return own;
     }
     let mut best = own;
     let mut i: usize = 0;
-    while i < 4 {
+    while i < MOST_EARLIER {
         if count <= i {
             return best;
         }

@@ -52,26 +52,37 @@ abbrev pub placeOf : Place → ℕ
 placeOf (At k) = k
 placeOf Nowhere = 0
 
+-- the place of the first cell among a line's fields
+abbrev pub firstCell : ℕ
+firstCell = 3
+
+abbrev pub mostCells : ℕ
+mostCells = 101
+
+-- in tenths
+abbrev pub greatestCell : ℕ
+greatestCell = 30000
+
 -- the cells of a line's fields
 abbrev pub cellsOf : List (List ℕ) → List (List ℕ)
-cellsOf fs = drop 3 fs
+cellsOf fs = drop firstCell fs
 
 -- some cell, read, is of a kind
 abbrev pub someCell : (Number → Bool) → List (List ℕ) → Bool
 someCell kind fs = some (λ f. kind (cellIn f)) fs
 
--- "at most 3000", in tenths
+-- "at most 3000"
 abbrev pub badCell : Number → Bool
-badCell n = outside 0 30000 n
+badCell n = outside 0 greatestCell n
 
 unfoldable pub columnRule : List (List ℕ) → Rule
 columnRule fs = let kind = kindOf (fieldAt fs 1) in let type = typeOf (fieldAt fs 2) in record {
   cases =
-      leb (length fs) 3 ⇒ Form
+      leb (length fs) firstCell ⇒ Form
       ∷ nowhere kind ⇒ Form
       ∷ someCell malformed (cellsOf fs) ⇒ Form
       ∷ nowhere type ⇒ ForestType
-      ∷ ltb 101 (length (cellsOf fs)) ⇒ TableColumn
+      ∷ ltb mostCells (length (cellsOf fs)) ⇒ TableColumn
       ∷ someCell badCell (cellsOf fs) ⇒ TableColumn
       ∷ [];
   entry = Column (placeOf kind + placeOf type) (length (cellsOf fs));

@@ -6,7 +6,7 @@ ghost use lib.Seq.{sets};
 ghost use Rattle.text.specs.Fields.{split};
 ghost use Rattle.entries.specs.Rules.{parsedBy};
 ghost use Rattle.fields.specs.Places.{placesOf};
-ghost use Rattle.columns.specs.Columns.{kindOf, typeOf, nowhere, placeOf, cellsOf, cellsFound, tenthsAll, columnRule, roomFor, filled};
+ghost use Rattle.columns.specs.Columns.{kindOf, typeOf, nowhere, placeOf, firstCell, cellsOf, cellsFound, tenthsAll, columnRule, roomFor, filled};
 use entries::Entry;
 use entries::Parsed;
 use fields::Places;
@@ -114,7 +114,7 @@ fn scan_cells(line: &[u8], first: usize, cells: &mut [u16]) -> Cells
 
 // How many fields stand behind the type.
 fn cell_count(count: usize) -> usize
-    ensures { λ r. ⌜ r ≡ count - 3 ⌝ }
+    ensures { λ r. ⌜ r ≡ count - firstCell ⌝ }
 {
     if FIRST_CELL < count {
         return count - FIRST_CELL;

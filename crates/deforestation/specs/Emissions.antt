@@ -19,6 +19,9 @@ use Rattle.deforestation.specs.declared.Emissions.{Emissions}
 use Rattle.deforestation.specs.declared.Emissions.the-variants.{Tonnes, Turned}
 use Rattle.parcels.specs.Parcels.{countedOf, faultsOf}
 
+abbrev pub mostParcels : ℕ
+mostParcels = 64
+
 -- what is wrong with some parcel
 unfoldable pub faultsAmong : List Parcel → Faults
 faultsAmong ps = record {
@@ -37,7 +40,7 @@ cases count ps =
     ∷ faultsAmong ps .hectares ⇒ Hectares
     ∷ faultsAmong ps .years ⇒ YearRange
     -- "9 parcel count, over four earlier clearings, cleared before planted, or an earlier clearing later than the parcel's"
-    ∷ (eqb count 0 || ltb 64 count) ⇒ ParcelList
+    ∷ (eqb count 0 || ltb mostParcels count) ⇒ ParcelList
     ∷ faultsAmong ps .order ⇒ ParcelList
     -- "10 no trees of nine years"
     ∷ faultsAmong ps .young ⇒ NoTreesOfNineYears

@@ -1,4 +1,4 @@
-// Deforestation of pre-1990 forest land: the emissions of up to 64 parcels, the first `count` of the array.
+// Deforestation of pre-1990 forest land: the emissions of parcels, the first `count` of the array.
 use parcels::Faults;
 use parcels::Parcel;
 use refusals::Refusal;
@@ -11,12 +11,14 @@ ghost use Rattle.laws.specs.Elements.{sumBy};
 ghost use Rattle.refusals.specs.Refusals.{smallest};
 ghost use Rattle.deforestation.specs.Emissions.{faultsAmong, cases, kilogramsOf, emissionsOf};
 
+pub const MOST_PARCELS: usize = 64;
+
 pub enum Emissions {
     Tonnes(u64),
     Turned(Refusal),
 }
 
-fn find_faults(parcels: [Parcel; 64], count: usize) -> Faults
+fn find_faults(parcels: [Parcel; MOST_PARCELS], count: usize) -> Faults
     ensures { λ r. ⌜ r ≡ faultsAmong (take count parcels) ⌝ }
 {
     let mut bare = false;
@@ -25,7 +27,7 @@ fn find_faults(parcels: [Parcel; 64], count: usize) -> Faults
     let mut order = false;
     let mut young = false;
     let mut i: usize = 0;
-    while i < 64 {
+    while i < MOST_PARCELS {
         if count <= i {
             return Faults {
                 bare,
@@ -53,14 +55,18 @@ fn find_faults(parcels: [Parcel; 64], count: usize) -> Faults
     }
 }
 
-fn judge(parcels: [Parcel; 64], count: usize) -> Verdict
+fn judge(parcels: [Parcel; MOST_PARCELS], count: usize) -> Verdict
     ensures { λ v. ⌜ v ≡ smallest (cases count (take count parcels)) ⌝ }
 {
     let found = find_faults(parcels, count);
     let bare = refusals::weigh(Verdict::Clear, found.bare, Refusal::ForestType);
     let hectares = refusals::weigh(bare, found.hectares, Refusal::Hectares);
     let years = refusals::weigh(hectares, found.years, Refusal::YearRange);
-    let number = refusals::weigh(years, (count == 0) | (64 < count), Refusal::ParcelList);
+    let number = refusals::weigh(
+        years,
+        (count == 0) | (MOST_PARCELS < count),
+        Refusal::ParcelList,
+    );
     let order = refusals::weigh(number, found.order, Refusal::ParcelList);
     refusals::weigh(order, found.young, Refusal::NoTreesOfNineYears)
 }
@@ -77,12 +83,12 @@ fn kilograms(cells: &[u16], p: Parcel) -> u64
     emitted.0
 }
 
-fn total(cells: &[u16], parcels: [Parcel; 64], count: usize) -> Kilograms
+fn total(cells: &[u16], parcels: [Parcel; MOST_PARCELS], count: usize) -> Kilograms
     ensures { λ r. ⌜ r .0 ≡ sumBy (kilogramsOf (now (cells .entry))) (take count parcels) ⌝ }
 {
     let mut sum: u64 = 0;
     let mut i: usize = 0;
-    while i < 64 {
+    while i < MOST_PARCELS {
         if count <= i {
             return Kilograms(sum);
         }
@@ -94,7 +100,7 @@ fn total(cells: &[u16], parcels: [Parcel; 64], count: usize) -> Kilograms
 }
 
 // The emissions in tonnes, or the refusal of the list.
-pub fn calculate(parcels: [Parcel; 64], count: usize) -> Emissions
+pub fn calculate(parcels: [Parcel; MOST_PARCELS], count: usize) -> Emissions
     ensures { λ r. ⌜ r ≡ emissionsOf count (take count parcels) ⌝ }
 {
     let verdict = judge(parcels, count);

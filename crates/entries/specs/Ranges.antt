@@ -9,7 +9,7 @@ use Rattle.numbers.specs.declared.Number.{Number}
 use Rattle.numbers.specs.Numbers.{numberIn}
 use Rattle.values.specs.Ranges.{outside}
 use Rattle.decimals.specs.Decimals.{hectaresIn}
-use Rattle.ranges.specs.Ranges.{lastArea, lastSub, firstYear, lastYear}
+use Rattle.ranges.specs.Ranges.{lastArea, lastSub, firstYear, lastYear, leastHectares, mostHectares}
 
 -- the field at a place, read
 abbrev pub numberAt : List (List ℕ) → ℕ → Number
@@ -31,7 +31,7 @@ badSub n = outside 1 lastSub n
 
 -- "hectares .. 1 to 10000 as entered", in ten-thousandths
 abbrev pub badHectares : Number → Bool
-badHectares n = outside 10000 100000000 n
+badHectares n = outside leastHectares mostHectares n
 
 -- "opening (2008 to 2199)"; "last (2008 to 2199)"; "years 2008 to 2199"
 abbrev pub badYear : Number → Bool

@@ -9,6 +9,10 @@ use Rattle.forest.specs.Order.{sameType}
 use Rattle.groups.specs.declared.Group.{Group}
 use Rattle.groups.specs.declared.Weights.{Weights}
 
+-- "7 tree list: none or over 64 groups"
+abbrev pub mostGroups : ℕ
+mostGroups = 64
+
 abbrev pub ofSpecies : ℕ → Group → Bool
 ofSpecies species g = eqb (g .species) species
 

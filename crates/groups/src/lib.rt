@@ -7,6 +7,8 @@ ghost use Prim.Native.Nat.{_≤_};
 ghost use lib.ListN.{take};
 ghost use Rattle.groups.specs.Sums.{area, weightedAge, speciesArea, weightsOf, meanAge};
 
+pub const MOST_GROUPS: usize = 64;
+
 // Trees of one species, type and age, and their basal area in cm².
 pub struct Group {
     pub species: u16,
@@ -41,12 +43,12 @@ fn weighted_if(counts: bool, g: Group) -> u64
     0
 }
 
-pub fn species_area(groups: [Group; 64], count: usize, species: u16) -> u64
+pub fn species_area(groups: [Group; MOST_GROUPS], count: usize, species: u16) -> u64
     ensures { λ r. ⌜ r ≡ speciesArea (take count groups) species ⌝ }
 {
     let mut sum: u64 = 0;
     let mut i: usize = 0;
-    while i < 64 {
+    while i < MOST_GROUPS {
         if count <= i {
             return sum;
         }
@@ -57,13 +59,13 @@ pub fn species_area(groups: [Group; 64], count: usize, species: u16) -> u64
     sum
 }
 
-fn type_weights(groups: [Group; 64], count: usize, forest: Forest) -> Weights
+fn type_weights(groups: [Group; MOST_GROUPS], count: usize, forest: Forest) -> Weights
     ensures { λ r. ⌜ (r ≡ weightsOf (take count groups) forest) × (r .area ≤ 274877906880) × (r .age ≤ 18014123627380800) ⌝ }
 {
     let mut area: u64 = 0;
     let mut age: u64 = 0;
     let mut i: usize = 0;
-    while i < 64 {
+    while i < MOST_GROUPS {
         if count <= i {
             return Weights { area, age };
         }
@@ -78,7 +80,7 @@ fn type_weights(groups: [Group; 64], count: usize, forest: Forest) -> Weights
 }
 
 // The mean age of the groups of a type, 0 where there is none.
-pub fn mean_age(groups: [Group; 64], count: usize, forest: Forest) -> u64
+pub fn mean_age(groups: [Group; MOST_GROUPS], count: usize, forest: Forest) -> u64
     ensures { λ r. ⌜ r ≡ meanAge (take count groups) forest ⌝ }
 {
     let weights = type_weights(groups, count, forest);

@@ -7,8 +7,9 @@ use lib.ListN.{take}
 use Rattle.laws.specs.Elements.{some}
 use Rattle.forest.specs.declared.Forest.the-variants.{Bare}
 use Rattle.forest.specs.Order.{sameType}
+use Rattle.ranges.specs.Ranges.{firstYear, lastYear, firstPlanted, leastHectares, mostHectares}
 use Rattle.clearings.specs.declared.Clearing.{Clearing}
-use Rattle.clearings.specs.Counting.{ageOf, countingOf}
+use Rattle.clearings.specs.Counting.{mostEarlier, leastAge, ageOf, countingOf}
 use Rattle.parcels.specs.declared.Parcel.{Parcel}
 use Rattle.parcels.specs.declared.Faults.{Faults}
 use Rattle.parcels.specs.declared.Amiss.{Amiss}
@@ -31,7 +32,7 @@ clearsBare c = sameType (c .forest) Bare
 
 -- "other years are 1900 to 2199"
 abbrev pub offYears : ℕ → Bool
-offYears year = ltb year 1900 || ltb 2199 year
+offYears year = ltb year firstPlanted || ltb lastYear year
 
 abbrev pub outOfYears : Clearing → Bool
 outOfYears c = offYears (c .planted) || offYears (c .cleared)
@@ -53,11 +54,11 @@ unfoldable pub faultsOf : Parcel → Faults
 faultsOf p = record {
   bare = amissOf (ownClearing p) (earlierOf p) .bare;
   -- "hectares (in ten-thousandths, 1 to 10000 ha)"
-  hectares = ltb (p .hectares) 10000 || ltb 100000000 (p .hectares);
+  hectares = ltb (p .hectares) leastHectares || ltb mostHectares (p .hectares);
   -- "the parcel is cleared in 2008 to 2199"
-  years = ltb (p .cleared) 2008 || amissOf (ownClearing p) (earlierOf p) .years;
+  years = ltb (p .cleared) firstYear || amissOf (ownClearing p) (earlierOf p) .years;
   -- "over four earlier clearings"
-  order = ltb 4 (p .count) || amissOf (ownClearing p) (earlierOf p) .order;
+  order = ltb mostEarlier (p .count) || amissOf (ownClearing p) (earlierOf p) .order;
   -- "no trees of nine years"
-  young = ltb (ageOf (countedOf p)) 9;
+  young = ltb (ageOf (countedOf p)) leastAge;
 }

@@ -1,5 +1,6 @@
 // A parcel of pre-1990 forest land that is deforested: the trees that count, and what refuses the parcel.
 use clearings::Clearing;
+use clearings::MOST_EARLIER;
 use forest::Forest;
 ghost use mathlib.Core.Path.{_≡_};
 ghost use lib.ListN.{take};
@@ -11,7 +12,7 @@ pub struct Parcel {
     pub forest: Forest,
     pub planted: u16,
     pub cleared: u16,
-    pub earlier: [Clearing; 4],
+    pub earlier: [Clearing; MOST_EARLIER],
     pub count: usize,
 }
 
@@ -61,7 +62,7 @@ fn clears_bare(c: Clearing) -> bool
 fn off_years(year: u16) -> bool
     ensures { λ r. ⌜ r ≡ offYears year ⌝ }
 {
-    (year < 1900) | (2199 < year)
+    (year < ranges::FIRST_PLANTED) | (ranges::LAST_YEAR < year)
 }
 
 fn out_of_years(c: Clearing) -> bool
@@ -76,7 +77,7 @@ fn is_misordered(last: u16, c: Clearing) -> bool
     (c.cleared < c.planted) | (last < c.cleared)
 }
 
-fn find_amiss(own: Clearing, earlier: [Clearing; 4], count: usize) -> Amiss
+fn find_amiss(own: Clearing, earlier: [Clearing; MOST_EARLIER], count: usize) -> Amiss
     ensures { λ r. ⌜ r ≡ amissOf own (take count earlier) ⌝ }
 {
     let last = own.cleared;
@@ -84,7 +85,7 @@ fn find_amiss(own: Clearing, earlier: [Clearing; 4], count: usize) -> Amiss
     let mut years = out_of_years(own);
     let mut order = is_misordered(last, own);
     let mut i: usize = 0;
-    while i < 4 {
+    while i < MOST_EARLIER {
         if count <= i {
             return Amiss { bare, years, order };
         }
@@ -106,9 +107,9 @@ pub fn find_faults(p: Parcel) -> Faults
     let age = clearings::age(counted(p));
     Faults {
         bare: amiss.bare,
-        hectares: (p.hectares < 10000) | (100000000 < p.hectares),
-        years: (p.cleared < 2008) | amiss.years,
-        order: (4 < count) | amiss.order,
-        young: age < 9,
+        hectares: (p.hectares < ranges::LEAST_HECTARES) | (ranges::MOST_HECTARES < p.hectares),
+        years: (p.cleared < ranges::FIRST_YEAR) | amiss.years,
+        order: (MOST_EARLIER < count) | amiss.order,
+        young: age < clearings::LEAST_AGE,
     }
 }

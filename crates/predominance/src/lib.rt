@@ -1,6 +1,7 @@
 // The predominant species of a hectare's tree groups, the first `count` of the array.
 use forest::Forest;
 use groups::Group;
+use groups::MOST_GROUPS;
 ghost use mathlib.Core.Path.{_≡_};
 ghost use lib.ListN.{take};
 ghost use Rattle.predominance.specs.Predominance.{comesBefore, leading, predominantOf};
@@ -11,7 +12,7 @@ fn comes_before(total: u64, species: u16, other_total: u64, other: u16) -> bool
     (other_total < total) | ((total == other_total) & (species < other))
 }
 
-fn lead(groups: [Group; 64], count: usize, leader: Group, g: Group) -> Group
+fn lead(groups: [Group; MOST_GROUPS], count: usize, leader: Group, g: Group) -> Group
     ensures { λ r. ⌜ r ≡ leading (take count groups) leader g ⌝ }
 {
     let total = groups::species_area(groups, count, g.species);
@@ -23,7 +24,7 @@ fn lead(groups: [Group; 64], count: usize, leader: Group, g: Group) -> Group
 }
 
 // A group of the predominant species.
-pub fn predominant(groups: [Group; 64], count: usize) -> Group
+pub fn predominant(groups: [Group; MOST_GROUPS], count: usize) -> Group
     ensures { λ r. ⌜ r ≡ predominantOf (take count groups) ⌝ }
 {
     if count == 0 {
@@ -36,7 +37,7 @@ pub fn predominant(groups: [Group; 64], count: usize) -> Group
     }
     let mut leader = groups[0];
     let mut i: usize = 1;
-    while i < 64 {
+    while i < MOST_GROUPS {
         if count <= i {
             return leader;
         }

@@ -21,7 +21,14 @@ lastYear = 2199
 abbrev pub firstPlanted : ℕ
 firstPlanted = 1900
 
--- "hectares .. 1 to 10000", in tenths
+-- "hectares .. 1 to 10000", in ten-thousandths
+abbrev pub leastHectares : ℕ
+leastHectares = 10000
+
+abbrev pub mostHectares : ℕ
+mostHectares = 100000000
+
+-- the same in tenths
 abbrev pub leastLand : ℕ
 leastLand = 10
 

@@ -15,6 +15,11 @@ pub const LAST_YEAR: u16 = 2199;
 
 pub const FIRST_PLANTED: u16 = 1900;
 
+// In ten-thousandths of a hectare.
+pub const LEAST_HECTARES: u32 = 10000;
+
+pub const MOST_HECTARES: u32 = 100000000;
+
 // In tenths of a hectare.
 const LEAST_LAND: u32 = 10;
 

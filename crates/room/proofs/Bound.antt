@@ -20,7 +20,7 @@ use Rattle.printing.proofs.Lengths.{refusal-few, end-few}
 use Rattle.listing.specs.Lines.{linesOf}
 use Rattle.listing.specs.Listing.{lineTaken, Run, start, next, printedFor, printed, listFrom, longestBook, listingOf}
 use Rattle.listing.proofs.Folding.{start-none, next-counts, listing-over, listing-lines}
-use Rattle.room.specs.Room.{roomForAny}
+use Rattle.room.specs.Room.{mostForByte, mostForEnd, roomForAny}
 use Rattle.room.proofs.Runs.{line-length, RunKept, start-kept, next-kept}
 
 -- a line's bytes and its end
@@ -33,14 +33,14 @@ unfolding printedFor
 printed-for number m Accepted outcome n h l = l
 printed-for number m (Refused r) outcome n h l = omega (arith, refusal-few 4 number r n)
 
-printed-length : (run : Run) (line : List ℕ) → RunKept run → run .accepted + run .refused + 1 < 100000 → length (printed run line) ≤ 11 * weight line
+printed-length : (run : Run) (line : List ℕ) → RunKept run → run .accepted + run .refused + 1 < 100000 → length (printed run line) ≤ mostForByte * weight line
 unfolding printed
 printed-length run line k h =
-    printed-for (run .accepted + run .refused + 1) (11 * weight line) _ (lineTaken (run .own) (run .holding) line) h (omega arith)
+    printed-for (run .accepted + run .refused + 1) (mostForByte * weight line) _ (lineTaken (run .own) (run .holding) line) h (omega arith)
     (line-length (run .own) (k .table) (run .holding) (k .holding) line)
 
 from-length : (run : Run) (lines : List (List ℕ)) → RunKept run → run .accepted + run .refused + length lines ≤ longestBook
-    → length (listFrom run lines) ≤ 11 * sumBy weight lines + 14
+    → length (listFrom run lines) ≤ mostForByte * sumBy weight lines + mostForEnd
 unfolding listFrom sumBy
 from-length run [] k h = omega (arith, end-few 4 4 (run .accepted) (run .refused) (omega arith) (omega arith))
 from-length run (line ∷ lines) k h =
@@ -70,7 +70,7 @@ lines-few (b ∷ bs) = go (eqb b 10) (linesOf bs) (lines-few bs)
     go false [] h = omega arith
     go false (f ∷ fs) h = omega arith
 
-pub listing-length : (book : List ℕ) → length book ≤ longestBook → length (listingOf book) ≤ 11 * (length book + 1) + 14
+pub listing-length : (book : List ℕ) → length book ≤ longestBook → length (listingOf book) ≤ mostForByte * (length book + 1) + mostForEnd
 listing-length book h =
     let few = lines-few book in
     omega (

@@ -1,6 +1,15 @@
 -- Room for any listing, in bytes.
-use Prim.Native.Nat.{ℕ}
+use Prim.Native.Nat.{ℕ, _+_, _*_}
+use Rattle.listing.specs.Listing.{longestBook}
 
--- 11 for each byte of a book of 65536 bytes and one byte more, and 14 for E
+-- what a line prints at most, for each of its bytes and for its end
+abbrev pub mostForByte : ℕ
+mostForByte = 11
+
+-- what E takes at most
+abbrev pub mostForEnd : ℕ
+mostForEnd = 14
+
+-- a book's last line may lack its end
 abbrev pub roomForAny : ℕ
-roomForAny = 720921
+roomForAny = mostForByte * (longestBook + 1) + mostForEnd

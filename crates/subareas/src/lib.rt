@@ -7,10 +7,9 @@ use entries::Parsed;
 use refusals::Refusal;
 use refusals::Verdict;
 
-// Ten-thousandths of a hectare.
-const LEAST_HECTARES: u64 = 10000;
+const LEAST_HECTARES: u64 = ranges::LEAST_HECTARES as u64;
 
-const MOST_HECTARES: u64 = 100000000;
+const MOST_HECTARES: u64 = ranges::MOST_HECTARES as u64;
 
 // S,area,sub,hectares,type,planted
 pub fn add_entry(line: &[u8]) -> Parsed

@@ -1,15 +1,15 @@
--- The groups of a lent list, gathered one by one into 64 places.
+-- The groups of a lent list, gathered one by one into as many places as are held.
 use Prim.Native.Nat.{ℕ}
 use mathlib.Core.Bool.{false, _||_}
 use lib.ListN.{replicate, set}
 use Rattle.forest.specs.declared.Forest.the-variants.{Bare}
 use Rattle.groups.specs.declared.Group.{Group}
-use Rattle.groups.specs.Sums.{ofType}
+use Rattle.groups.specs.Sums.{mostGroups, ofType}
 use Rattle.predominance.specs.Predominance.{noGroup}
 use Rattle.trees.specs.declared.Gathered.{Gathered}
 
 unfoldable pub noneGathered : Gathered
-noneGathered = record { groups = replicate 64 noGroup; bare = false }
+noneGathered = record { groups = replicate mostGroups noGroup; bare = false }
 
 -- one group more, at its place in the list; past the last place it is only looked at for bare land
 unfoldable pub gathering : Gathered → ℕ → Group → Gathered

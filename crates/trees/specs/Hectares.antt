@@ -11,15 +11,21 @@ use Rattle.refusals.specs.declared.Verdict.the-variants.{Clear, Turned as Refus
 use Rattle.refusals.specs.Refusals.{Case, _⇒_, smallest}
 use Rattle.forest.specs.declared.Forest.the-variants.{Bare}
 use Rattle.groups.specs.declared.Group.{Group}
-use Rattle.groups.specs.Sums.{ofSpecies, ofType, meanAge}
+use Rattle.groups.specs.Sums.{mostGroups, ofSpecies, ofType, meanAge}
 use Rattle.predominance.specs.Predominance.{predominantOf}
 use Rattle.trees.specs.declared.Faults.{Faults}
 use Rattle.trees.specs.declared.Hectare.{Hectare}
 use Rattle.trees.specs.declared.Hectare.the-variants.{Of, Turned}
 
+abbrev pub oldestTrees : ℕ
+oldestTrees = 300
+
+abbrev pub mostBasalArea : ℕ
+mostBasalArea = 1000000
+
 -- "age over 300, basal area 0 or over 1000000"
 abbrev pub outOfRange : Group → Bool
-outOfRange g = ltb 300 (g .age) || eqb (g .«basal_area») 0 || ltb 1000000 (g .«basal_area»)
+outOfRange g = ltb oldestTrees (g .age) || eqb (g .«basal_area») 0 || ltb mostBasalArea (g .«basal_area»)
 
 -- a group of the same species under another type
 abbrev pub otherType : Group → Group → Bool
@@ -42,7 +48,7 @@ cases count bare gs =
     -- "3 type (B too in a .. tree ..)"
     bare ⇒ ForestType
     -- "7 tree list: none or over 64 groups, age over 300, basal area 0 or over 1000000, one species under two types"
-    ∷ (eqb count 0 || ltb 64 count) ⇒ TreeList
+    ∷ (eqb count 0 || ltb mostGroups count) ⇒ TreeList
     ∷ faultsOf gs .«out_of_range» ⇒ TreeList
     ∷ faultsOf gs .«two_types» ⇒ TreeList
     ∷ []

@@ -1,6 +1,7 @@
 // The forest type and the age of one hectare, from its tree groups.
 use forest::Forest;
 use groups::Group;
+use groups::MOST_GROUPS;
 use refusals::Refusal;
 use refusals::Verdict;
 ghost use mathlib.Core.Path.{_≡_};
@@ -10,14 +11,19 @@ ghost use Rattle.refusals.specs.Refusals.{smallest};
 ghost use Rattle.trees.specs.Gathering.{noneGathered, gathering};
 ghost use Rattle.trees.specs.Hectares.{outOfRange, otherType, faultsOf, cases, heldOf, hectareOf};
 
+const OLDEST_TREES: u16 = 300;
+
+// In cm².
+const MOST_BASAL_AREA: u32 = 1000000;
+
 pub enum Hectare {
     Of { forest: Forest, age: u16 },
     Turned(Refusal),
 }
 
-// The groups of a list, as many as the 64 places hold, and whether any of the whole list is bare land.
+// The groups of a list, as many as the places hold, and whether any of the whole list is bare land.
 struct Gathered {
-    groups: [Group; 64],
+    groups: [Group; MOST_GROUPS],
     bare: bool,
 }
 
@@ -30,7 +36,7 @@ struct Faults {
 fn out_of_range(g: Group) -> bool
     ensures { λ r. ⌜ r ≡ outOfRange g ⌝ }
 {
-    (300 < g.age) | (g.basal_area == 0) | (1000000 < g.basal_area)
+    (OLDEST_TREES < g.age) | (g.basal_area == 0) | (MOST_BASAL_AREA < g.basal_area)
 }
 
 fn other_type(g: Group, h: Group) -> bool
@@ -42,12 +48,12 @@ fn other_type(g: Group, h: Group) -> bool
 }
 
 // Whether the species of `g` also stands under another type.
-fn two_types(groups: [Group; 64], count: usize, g: Group) -> bool
+fn two_types(groups: [Group; MOST_GROUPS], count: usize, g: Group) -> bool
     ensures { λ r. ⌜ r ≡ some (otherType g) (take count groups) ⌝ }
 {
     let mut found = false;
     let mut i: usize = 0;
-    while i < 64 {
+    while i < MOST_GROUPS {
         if count <= i {
             return found;
         }
@@ -58,13 +64,13 @@ fn two_types(groups: [Group; 64], count: usize, g: Group) -> bool
     found
 }
 
-fn find_faults(groups: [Group; 64], count: usize) -> Faults
+fn find_faults(groups: [Group; MOST_GROUPS], count: usize) -> Faults
     ensures { λ r. ⌜ r ≡ faultsOf (take count groups) ⌝ }
 {
     let mut range = false;
     let mut types = false;
     let mut i: usize = 0;
-    while i < 64 {
+    while i < MOST_GROUPS {
         if count <= i {
             return Faults {
                 out_of_range: range,
@@ -88,7 +94,11 @@ fn judge(found: Gathered, count: usize) -> Verdict
     let groups = found.groups;
     let faults = find_faults(groups, count);
     let bare = refusals::weigh(Verdict::Clear, found.bare, Refusal::ForestType);
-    let number = refusals::weigh(bare, (count == 0) | (64 < count), Refusal::TreeList);
+    let number = refusals::weigh(
+        bare,
+        (count == 0) | (MOST_GROUPS < count),
+        Refusal::TreeList,
+    );
     let range = refusals::weigh(number, faults.out_of_range, Refusal::TreeList);
     refusals::weigh(range, faults.two_types, Refusal::TreeList)
 }
@@ -118,19 +128,19 @@ fn none_gathered() -> Gathered
         basal_area: 0,
     };
     Gathered {
-        groups: [none; 64],
+        groups: [none; MOST_GROUPS],
         bare: false,
     }
 }
 
-// One group more, at its place in the list; a place past 64 is not held.
+// One group more, at its place in the list; a place past the last is not held.
 fn gather(found: Gathered, at: usize, g: Group) -> Gathered
     ensures { λ r. ⌜ r ≡ gathering found at g ⌝ }
 {
     let mut groups = found.groups;
     let f = g.forest;
     let bare = found.bare | forest::same(f, Forest::Bare);
-    if at < 64 {
+    if at < MOST_GROUPS {
         groups[at] = g;
         return Gathered { groups, bare };
     }
