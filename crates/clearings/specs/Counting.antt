@@ -14,6 +14,7 @@ mostEarlier = 4
 abbrev pub leastAge : ℕ
 leastAge = 9
 
+-- how many years before another a clearing counts
 abbrev pub window : ℕ
 window = 9
 
