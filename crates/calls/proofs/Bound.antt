@@ -38,13 +38,10 @@ use Rattle.outputs.proofs.TableBytes.{bytes-length}
 use Rattle.calling.specs.Call.{tableVerdict, callVerdict, foundBytes, entryBytes, parsedBytes, callBytes}
 use Rattle.calling.proofs.Smaller.{call-clear}
 use Rattle.calling.proofs.Sorts.{column-taken, step-taken, accepted-column}
-use Rattle.calls.specs.Calls.{begin, callsFrom}
+use Rattle.calls.specs.Calls.{mostWritten, begin, callsFrom}
 use Rattle.calls.proofs.Taken.{step-kept}
 use Rattle.calls.proofs.Lengths.{statement-few}
 use Rattle.calls.proofs.CallsList.{calls-list-within}
-
-abbrev pub mostWritten : ℕ
-mostWritten = 12288
 
 -- a table that is accepted is one
 table-is : (table : List ℕ) → tableVerdict table ≡ Accepted → isTable (numbersOf table) ≡ true

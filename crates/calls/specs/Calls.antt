@@ -11,6 +11,10 @@ use Rattle.format.specs.Format.{statementOf}
 use Rattle.printing.specs.Printing.{pairText, endText}
 use Rattle.calling.specs.Call.{callAnswer, callOutput}
 
+-- the most bytes that a call writes (`call-few`): an output as long is never too short
+abbrev pub mostWritten : ℕ
+mostWritten = 12288
+
 pub record Caller : Type 0 where
   pub statement : List ℕ
   pub table : List ℕ

@@ -16,7 +16,8 @@ use Rattle.answers.specs.declared.Written.{Written}
 use Rattle.answers.specs.declared.Written.the-variants.{Count, Refused as Unwritten}
 use Rattle.answers.specs.Answers.{written}
 use Rattle.calling.specs.Call.{withRoom, callVerdict, callBytes, callWeighed, answerOf, callAnswer}
-use Rattle.calls.proofs.Bound.{mostWritten, call-few}
+use Rattle.calls.specs.Calls.{mostWritten}
+use Rattle.calls.proofs.Bound.{call-few}
 
 by-count : (v : Verdict) (bytes : List ℕ) (n : ℕ) → written v bytes ≡ Count n → (v ≡ Accepted) × (n ≡ length bytes) × (pos n ≡ answerOf v bytes)
 unfolding written

@@ -37,8 +37,8 @@ residueAt s at =
     let year = numberAt s (age .next) 10 most16 in
     record { residue = record { forest = type .forest; age = age .value; year = year .value }; next = year .next }
 
-unfoldable pub subAt : List ℕ → ℕ → SubRead
-subAt s at =
+unfoldable pub subLineAt : List ℕ → ℕ → SubRead
+subLineAt s at =
     let number = numberAt s (lineAt s at 83) 44 most8 in
     let tenths = numberAt s (number .next) 44 most32 in
     let type = typeAt s (tenths .next) 44 in
@@ -61,7 +61,7 @@ itemsFrom item next zero i l at = (l, at)
 itemsFrom item next (suc k) i l at = itemsFrom item next k (i + 1) (set l i (item at)) (next at)
 
 unfoldable pub subsFrom : List ℕ → ℕ → ℕ → List Sub → ℕ → List Sub × ℕ
-subsFrom s = itemsFrom (λ at. subAt s at .sub) (λ at. subAt s at .next)
+subsFrom s = itemsFrom (λ at. subLineAt s at .sub) (λ at. subLineAt s at .next)
 
 unfoldable pub subsAt : List ℕ → ℕ → ℕ → SubsRead
 subsAt s at count = let read = subsFrom s count 0 (replicate mostSubs emptySub) at in record { subs = read .0; next = read .1 }
@@ -90,8 +90,8 @@ amountsAt s at =
       next = surrendered .next;
     }
 
-unfoldable pub areaAt : List ℕ → ℕ → AreaRead
-areaAt s at =
+unfoldable pub areaLineAt : List ℕ → ℕ → AreaRead
+areaLineAt s at =
     let years = yearsAt s (lineAt s at 65) in
     let amounts = amountsAt s (years .next) in
     let count = numberAt s (amounts .next) 10 mostSubs in
@@ -114,7 +114,7 @@ areaAt s at =
     }
 
 unfoldable pub areasFrom : List ℕ → ℕ → ℕ → List Area → ℕ → List Area × ℕ
-areasFrom s = itemsFrom (λ at. areaAt s at .area) (λ at. areaAt s at .next)
+areasFrom s = itemsFrom (λ at. areaLineAt s at .area) (λ at. areaLineAt s at .next)
 
 unfoldable pub areasAt : List ℕ → ℕ → ℕ → AreasRead
 areasAt s at count = let read = areasFrom s count 0 (replicate mostAreas emptyArea) at in record { areas = read .0; next = read .1 }

@@ -1,7 +1,7 @@
 // Reads a statement's lines as a holding, with the place after them. What the holding must keep is judged after it is read.
 ghost use Prim.Native.Nat.{_≤_};
 ghost use mathlib.Core.Path.{_≡_};
-ghost use Rattle.reading.specs.Reading.{residueAt, subAt, subsAt, yearsAt, amountsAt, areaAt, areasAt, holdingAt};
+ghost use Rattle.reading.specs.Reading.{residueAt, subLineAt, subsAt, yearsAt, amountsAt, areaLineAt, areasAt, holdingAt};
 use holding::Area;
 use holding::Holding;
 use holding::Residue;
@@ -82,7 +82,7 @@ fn read_residue(s: &[u8], at: usize) -> ResidueRead
 
 // A sub-area's line.
 fn read_sub(s: &[u8], at: usize) -> SubRead
-    ensures { λ r. ⌜ r ≡ subAt (now (s .entry)) at ⌝ }
+    ensures { λ r. ⌜ r ≡ subLineAt (now (s .entry)) at ⌝ }
 {
     let start = cursor::line(s, at, 83);
     let number = cursor::number(s, start, 44, MOST8);
@@ -159,7 +159,7 @@ fn read_amounts(s: &[u8], at: usize) -> AmountsRead
 
 // An area's line and those of its sub-areas.
 fn read_area(s: &[u8], at: usize) -> AreaRead
-    ensures { λ r. ⌜ r ≡ areaAt (now (s .entry)) at ⌝ }
+    ensures { λ r. ⌜ r ≡ areaLineAt (now (s .entry)) at ⌝ }
 {
     let start = cursor::line(s, at, 65);
     let years = read_years(s, start);

@@ -9,7 +9,7 @@ use lib.ListN.{take}
 use Rattle.holding.specs.Holding.{mostAreas, mostSubs, emptySub, emptyArea}
 use Rattle.format.specs.Format.{numberText, joined, texts, flag, residueText, subText, yearsText, amountsText, areaText, statementOf}
 use Rattle.cursor.specs.Cursor.{numberAt}
-use Rattle.reading.specs.Reading.{most8, most16, most32, mostRead, residueAt, subAt, subsFrom, subsAt, yearsAt, amountsAt, areaAt, areasFrom, areasAt, holdingAt}
+use Rattle.reading.specs.Reading.{most8, most16, most32, mostRead, residueAt, subLineAt, subsFrom, subsAt, yearsAt, amountsAt, areaLineAt, areasFrom, areasAt, holdingAt}
 use Rattle.keeping.specs.Tidy.{TidyArea, TidyHolding}
 use Rattle.trips.proofs.Places.{Stands, There, stands-none, stands-then}
 use Rattle.trips.proofs.Values.{number-there, number-small, type-there}
@@ -29,8 +29,8 @@ module _ (s : List ℕ) (at : ℕ) where
       }
 
 module _ (s : List ℕ) (at : ℕ) where
-  sub-there : 0 < subAt s at .next → There s at (subText (subAt s at .sub)) (subAt s at .next)
-  unfolding subAt subText joined
+  sub-there : 0 < subLineAt s at .next → There s at (subText (subLineAt s at .sub)) (subLineAt s at .next)
+  unfolding subLineAt subText joined
   sub-there h =
       let residue = residue-there s _ h in
       let planted = number-there s _ 44 most16 (residue .started) in
@@ -61,11 +61,11 @@ module _ (s : List ℕ) (at : ℕ) where
   subs-there : (count : ℕ) → count ≤ mostSubs → 0 < subsAt s at count .next
       → There s at (texts subText (take count (subsAt s at count .subs))) (subsAt s at count .next)
   unfolding subsAt subsFrom
-  subs-there count room h = filled-there (λ p. subAt s p .sub) (λ p. subAt s p .next) s subText (sub-there s) emptySub mostSubs count at room h
+  subs-there count room h = filled-there (λ p. subLineAt s p .sub) (λ p. subLineAt s p .next) s subText (sub-there s) emptySub mostSubs count at room h
 
 module _ (s : List ℕ) (at : ℕ) where
-  area-there : 0 < areaAt s at .next → There s at (areaText (areaAt s at .area)) (areaAt s at .next)
-  unfolding areaAt yearsAt amountsAt areaText yearsText amountsText joined
+  area-there : 0 < areaLineAt s at .next → There s at (areaText (areaLineAt s at .area)) (areaLineAt s at .next)
+  unfolding areaLineAt yearsAt amountsAt areaText yearsText amountsText joined
   area-there h =
       let subs = subs-there s _ _ (number-small s _ 10 mostSubs) h in
       let count = number-there s _ 10 mostSubs (subs .started) in
@@ -93,15 +93,15 @@ module _ (s : List ℕ) (at : ℕ) where
             (stands-then years (stands-then amounts (stands-then (count .stands) (stands-then (subs .stands) (stands-none s _)))));
       }
 
-  area-tidy : TidyArea (areaAt s at .area)
-  unfolding areaAt subsAt subsFrom
-  area-tidy = filled-tidy (λ p. subAt s p .sub) (λ p. subAt s p .next) emptySub mostSubs _ _ (number-small s _ 10 mostSubs)
+  area-tidy : TidyArea (areaLineAt s at .area)
+  unfolding areaLineAt subsAt subsFrom
+  area-tidy = filled-tidy (λ p. subLineAt s p .sub) (λ p. subLineAt s p .next) emptySub mostSubs _ _ (number-small s _ 10 mostSubs)
 
 module _ (s : List ℕ) where
   areas-there : (at count : ℕ) → count ≤ mostAreas → 0 < areasAt s at count .next
       → There s at (texts areaText (take count (areasAt s at count .areas))) (areasAt s at count .next)
   unfolding areasAt areasFrom
-  areas-there at count room h = filled-there (λ p. areaAt s p .area) (λ p. areaAt s p .next) s areaText (area-there s) emptyArea mostAreas count at room h
+  areas-there at count room h = filled-there (λ p. areaLineAt s p .area) (λ p. areaLineAt s p .next) s areaText (area-there s) emptyArea mostAreas count at room h
 
   pub holding-there : 0 < holdingAt s .next → Stands s 0 (statementOf (holdingAt s .holding)) (holdingAt s .next)
   unfolding holdingAt statementOf joined
@@ -116,6 +116,6 @@ module _ (s : List ℕ) where
   holding-tidy =
       let room = number-small s _ 10 mostAreas in
       record {
-        areas = filled-tidy (λ p. areaAt s p .area) (λ p. areaAt s p .next) emptyArea mostAreas _ _ room;
-        subs = filled-each (λ p. areaAt s p .area) (λ p. areaAt s p .next) emptyArea mostAreas _ _ room TidyArea (area-tidy s);
+        areas = filled-tidy (λ p. areaLineAt s p .area) (λ p. areaLineAt s p .next) emptyArea mostAreas _ _ room;
+        subs = filled-each (λ p. areaLineAt s p .area) (λ p. areaLineAt s p .next) emptyArea mostAreas _ _ room TidyArea (area-tidy s);
       }

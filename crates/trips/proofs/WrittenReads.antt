@@ -15,7 +15,7 @@ use Rattle.format.specs.Format.{startText, numberText, typeText, texts, flag, r
 use Rattle.reading.specs.declared.SubRead.{SubRead}
 use Rattle.reading.specs.declared.AmountsRead.{AmountsRead}
 use Rattle.reading.specs.declared.AreaRead.{AreaRead}
-use Rattle.reading.specs.Reading.{most8, most16, most32, mostRead, residueAt, subAt, subsFrom, subsAt, yearsAt, amountsAt, areaAt, areasFrom, areasAt, holdingAt}
+use Rattle.reading.specs.Reading.{most8, most16, most32, mostRead, residueAt, subLineAt, subsFrom, subsAt, yearsAt, amountsAt, areaLineAt, areasFrom, areasAt, holdingAt}
 use Rattle.keeping.specs.Kept.{Kept}
 use Rattle.keeping.proofs.Register.{Register}
 use Rattle.keeping.proofs.Areas.{areaNumber, subNumber}
@@ -39,8 +39,8 @@ module _ (s : List ℕ) (at last : ℕ) where
       simp (e0, e1, e2) (ap (λ (p : ℕ). record { residue = residue; next = p }) (piece-last (piece-rest p2)))
 
 module _ (s : List ℕ) (at last : ℕ) where
-  sub-here : (sub : Sub) → SubFits sub → 0 < at → Stands s at (subText sub) last → subAt s at ≡ record { sub = sub; next = last }
-  unfolding subAt subText
+  sub-here : (sub : Sub) → SubFits sub → 0 < at → Stands s at (subText sub) last → subLineAt s at ≡ record { sub = sub; next = last }
+  unfolding subLineAt subText
   sub-here sub fits started stands =
       let p0 : Pieces s at
       (startText 83 ∷ numberText (sub .number) 44 ∷ numberText (sub .tenths .0) 44 ∷ typeText (sub .forest) 44 ∷ numberText (sub .planted) 44
@@ -64,7 +64,7 @@ subs-here : (s : List ℕ) (at last count : ℕ) (subs : List Sub) → Register 
 unfolding subsAt subsFrom
 subs-here s at last count subs register started stands =
     ap (λ (read : List Sub × ℕ). record { subs = read .0; next = read .1 })
-    (register-here (λ p. subAt s p .sub) (λ p. subAt s p .next) s subText SubFits
+    (register-here (λ p. subLineAt s p .sub) (λ p. subLineAt s p .next) s subText SubFits
     (λ p q sub fits h st. let e = sub-here s p q sub fits h st in (ap (λ (r : SubRead). r .sub) e, ap (λ (r : SubRead). r .next) e))
     subNumber emptySub mostSubs count subs register at last started stands)
 
@@ -124,8 +124,8 @@ module _ (s : List ℕ) (at last : ℕ) (area : Area) (fits : AreaFits area) (st
       simp (e0, e1, e2, e3, e4, flag-read) (ap amountsTo (piece-last (piece-rest p4)))
 
 module _ (s : List ℕ) (at last : ℕ) where
-  area-here : (area : Area) → AreaFits area → 0 < at → Stands s at (areaText area) last → areaAt s at ≡ record { area = area; next = last }
-  unfolding areaAt areaText
+  area-here : (area : Area) → AreaFits area → 0 < at → Stands s at (areaText area) last → areaLineAt s at ≡ record { area = area; next = last }
+  unfolding areaLineAt areaText
   area-here area fits started stands =
       let p0 : Pieces s at (startText 65 ∷ yearsText area ∷ amountsText area ∷ numberText (area .count) 10 ∷ texts subText (subsOf area) ∷ []) last =
       record { all = stands } in
@@ -145,7 +145,7 @@ areas-here : (s : List ℕ) (at last count : ℕ) (areas : List Area) → Regist
 unfolding areasAt areasFrom
 areas-here s at last count areas register started stands =
     ap (λ (read : List Area × ℕ). record { areas = read .0; next = read .1 })
-    (register-here (λ p. areaAt s p .area) (λ p. areaAt s p .next) s areaText AreaFits
+    (register-here (λ p. areaLineAt s p .area) (λ p. areaLineAt s p .next) s areaText AreaFits
     (λ p q area fits h st. let e = area-here s p q area fits h st in (ap (λ (r : AreaRead). r .area) e, ap (λ (r : AreaRead). r .next) e))
     areaNumber emptyArea mostAreas count areas register at last started stands)
 

@@ -1,11 +1,11 @@
 -- `reading::read_area` meets its contract: each part is read at the place after the one before, as in the definition.
-use Rattle.reading.specs.Reading.{areaAt}
+use Rattle.reading.specs.Reading.{areaLineAt}
 use borrow.Author.Needs.{needs}
 use Rattle.reading.proofs.read_area.Statement.{statement}
 use Rattle.reading.proofs.read_area.Tie as tie
 
 returns : tie.Need-returns
-unfolding areaAt
+unfolding areaLineAt
 returns c =
     let subs = c .before .before in
     let amounts = subs .before .before in

@@ -1,11 +1,11 @@
 -- `reading::read_sub` meets its contract: each field is read at the place after the one before, as in the definition.
-use Rattle.reading.specs.Reading.{subAt}
+use Rattle.reading.specs.Reading.{subLineAt}
 use borrow.Author.Needs.{needs}
 use Rattle.reading.proofs.read_sub.Statement.{statement}
 use Rattle.reading.proofs.read_sub.Tie as tie
 
 returns : tie.Need-returns
-unfolding subAt
+unfolding subLineAt
 returns c =
     let residue = c .before .before .before .before in
     let tenths = residue .before .before .before in
