@@ -19,7 +19,7 @@ pub struct TypeField {
 }
 
 // The place of the first byte `end` at a place or after it; past the last byte where there is none.
-pub fn end_of(s: &[u8], at: usize, end: u8) -> usize
+fn end_of(s: &[u8], at: usize, end: u8) -> usize
     ensures { λ r. ⌜ r ≡ at + widthTo end (drop at (now (s .entry))) ⌝ }
     ensures { λ r. ⌜ at ≤ r ⌝ }
 {

@@ -26,7 +26,7 @@ fn area_in(holding: Holding, i: usize) -> Area
 }
 
 // The area there, the empty one where none stands.
-pub fn area_at(holding: Holding, found: Found) -> Area
+fn area_at(holding: Holding, found: Found) -> Area
     ensures { λ r. ⌜ r ≡ areaAt holding found ⌝ }
 {
     match found {

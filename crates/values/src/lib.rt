@@ -25,7 +25,7 @@ pub fn is_outside(number: Number, low: u64, high: u64) -> bool
 }
 
 // The value, 0 where there is none.
-pub fn value(number: Number) -> u64
+fn value(number: Number) -> u64
     ensures { λ r. ⌜ r ≡ valueOf number ⌝ }
 {
     match number {
