@@ -8,7 +8,7 @@ use borrow.Author.Tests.{le-leb, lt-leb, eq-eqb, ne-eqb}
 use lib.ListN.{length, getD, drop, drop-of-length-le}
 use lib.Seq.{drop-cons}
 use Rattle.numbers.specs.declared.Number.{Number}
-use Rattle.numbers.specs.declared.Number.the-variants.{Value, Large, Malformed}
+use Rattle.numbers.specs.declared.Number.the-variants.{Value, Malformed}
 use Rattle.numbers.specs.Numbers.{appendDigit, append, more, headed, numberIn}
 
 -- ---- one byte
