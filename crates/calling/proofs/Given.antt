@@ -28,7 +28,9 @@ use Rattle.holding.specs.declared.Holding.{Holding}
 use Rattle.holding.specs.declared.Found.{Found}
 use Rattle.holding.specs.declared.Found.the-variants.{At, Nowhere}
 use Rattle.holding.specs.Find.{findArea}
+use Rattle.standing.specs.declared.Looked.{Looked}
 use Rattle.standing.specs.Standing.{areaAt}
+use Rattle.standing.proofs.Laws.{looked-as}
 use Rattle.outcomes.specs.declared.Outcome.{Outcome}
 use Rattle.outcomes.specs.Outcomes.{placed}
 use Rattle.steps.specs.Steps.{areaNamed, appliedTo, applied}
@@ -197,9 +199,7 @@ pub step-looked : (own default : List ℕ) (holding : Holding) (entry : Entry) (
     → number ≡ areaNamed entry → found ≡ findArea holding number → area ≡ areaAt holding found → outcome ≡ applied own default holding entry
 unfolding applied
 step-looked own default holding entry number found area outcome o n f a =
-    o
-    ∙ ap (λ (x : Area). appliedTo own default (record { count = holding .count; found = found; area = x }) entry) a
-    ∙ ap (λ (x : Found). appliedTo own default (record { count = holding .count; found = x; area = areaAt holding x }) entry) (f ∙ ap (findArea holding) n)
+    o ∙ ap (λ (x : Looked). appliedTo own default x entry) (looked-as holding found _ area (f ∙ ap (findArea holding) n) a)
 
 module _ (own statement default : List ℕ) (entry : Entry) (read : Read) (outcome : Outcome) (v : Verdict) (r : read ≡ readOf statement)
     (d : default ≡ schedule6) (o : outcome ≡ applied own default (read .holding) entry) (w : v ≡ smaller (read .verdict) (outcome .verdict)) where

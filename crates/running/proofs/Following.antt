@@ -13,12 +13,14 @@ use Rattle.holding.specs.declared.Area.{Area}
 use Rattle.holding.specs.declared.Holding.{Holding}
 use Rattle.holding.specs.declared.Found.{Found}
 use Rattle.holding.specs.declared.Found.the-variants.{At, Nowhere}
-use Rattle.standing.specs.Standing.{areaAt}
+use Rattle.standing.specs.declared.Looked.{Looked}
+use Rattle.standing.specs.Standing.{areaAt, lookedAt}
+use Rattle.standing.proofs.Laws.{looked-as}
 use Rattle.outcomes.specs.declared.Outcome.{Outcome}
 use Rattle.outcomes.specs.Outcomes.{placedAt, placed}
 use Rattle.listing.specs.Listing.{lineTaken, ifAccepted, tableAfter, Run, next, printedFor, printed}
 use Rattle.taking.specs.declared.Turn.{Turn}
-use Rattle.taking.specs.Turns.{parsedTurn, foundFor, lookedFor, turnOf}
+use Rattle.taking.specs.Turns.{parsedTurn, foundFor, turnOf}
 use Rattle.running.specs.Tables.{tableBy}
 use Rattle.running.proofs.Turns.{turn-outcome, turn-table}
 
@@ -42,9 +44,8 @@ pub turn-is-of : (own default : List ℕ) (holding : Holding) (line : List ℕ) 
 unfolding turnOf
 turn-is-of own default holding line parsed found area turn t p f a =
     t
-    ∙ ap (λ (x : Area). parsedTurn own default (record { count = holding .count; found = found; area = x }) line parsed) a
-    ∙ ap (λ (x : Found). parsedTurn own default (record { count = holding .count; found = x; area = areaAt holding x }) line parsed) f
-    ∙ ap (λ (x : Parsed). parsedTurn own default (lookedFor holding x) line x) p
+    ∙ ap (λ (x : Looked). parsedTurn own default x line parsed) (looked-as holding found _ area f a)
+    ∙ ap (λ (x : Parsed). parsedTurn own default (lookedAt holding (foundFor holding x)) line x) p
 
 -- the turn of a line, taken with the run's own table and the cells of Schedule 6
 module _ (run : Run) (line own default : List ℕ) (turn : Turn) (t : turn ≡ turnOf own default (run .holding) line) (o : own ≡ run .own) (d : default ≡ schedule6) where

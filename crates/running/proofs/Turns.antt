@@ -18,7 +18,7 @@ use Rattle.holding.specs.declared.Holding.{Holding}
 use Rattle.holding.specs.declared.Found.{Found}
 use Rattle.holding.specs.declared.Found.the-variants.{At, Nowhere}
 use Rattle.holding.specs.Holding.{emptyArea}
-use Rattle.standing.specs.Standing.{lookedUp}
+use Rattle.standing.specs.Standing.{lookedAt, lookedUp}
 use Rattle.outcomes.specs.declared.Outcome.{Outcome}
 use Rattle.outcomes.specs.declared.Report.the-variants.{Nothing}
 use Rattle.outcomes.specs.Outcomes.{accepted, answered}
@@ -28,7 +28,7 @@ use Rattle.growing.specs.Growing.{longerBy, growable, grownBy}
 use Rattle.growing.proofs.Fits.{grown-front, count-fits}
 use Rattle.listing.specs.Listing.{entryTaken, parsedTaken, lineTaken, entryTable, parsedTable, ifAccepted, tableAfter}
 use Rattle.taking.specs.declared.Turn.{Turn}
-use Rattle.taking.specs.Turns.{stayed, columnTurn, foundTurn, entryTurn, parsedTurn, lookedFor, turnOf}
+use Rattle.taking.specs.Turns.{stayed, columnTurn, foundTurn, entryTurn, parsedTurn, foundFor, turnOf}
 use Rattle.running.specs.Tables.{tableIn, tableBy, Fronts}
 
 -- the table that a column leaves
@@ -75,7 +75,7 @@ module _ (own : List ℕ) (holding : Holding) (line : List ℕ) where
   entry-follows (Withdraw area) = stays _
 
   parsed-follows : (parsed : Parsed)
-      → Follows (parsedTable own line parsed) (parsedTaken own holding line parsed) (parsedTurn own schedule6 (lookedFor holding parsed) line parsed)
+      → Follows (parsedTable own line parsed) (parsedTaken own holding line parsed) (parsedTurn own schedule6 (lookedAt holding (foundFor holding parsed)) line parsed)
   unfolding parsedTaken parsedTurn
   parsed-follows (Taken entry) = entry-follows entry
   parsed-follows (Turned refusal) = stays _

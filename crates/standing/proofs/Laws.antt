@@ -1,6 +1,6 @@
 -- What a search found, taken from the array, or put back into it.
 use Prim.Native.Nat.{ℕ, _<_, _≤_}
-use mathlib.Core.Path.{_≡_, sym, ap}
+use mathlib.Core.Path.{_≡_, sym, ap, _∙_}
 use mathlib.Core.List.{List}
 use lib.ListN.{length, getD, set, List·getD-eq-default}
 use lib.Seq.{set-out}
@@ -11,7 +11,8 @@ use Rattle.holding.specs.declared.Holding.{Holding}
 use Rattle.holding.specs.declared.Found.{Found}
 use Rattle.holding.specs.declared.Found.the-variants.{At, Nowhere}
 use Rattle.holding.specs.Holding.{emptySub, emptyArea}
-use Rattle.standing.specs.Standing.{areaAt, subAt, withSub}
+use Rattle.standing.specs.declared.Looked.{Looked}
+use Rattle.standing.specs.Standing.{areaAt, lookedAt, subAt, withSub}
 
 module _ (holding : Holding) (found : Found) where
   pub area-here : (i : ℕ) (d : Area) → found ≡ At i → i < length (holding .areas) → getD (holding .areas) i d ≡ areaAt holding found
@@ -25,6 +26,13 @@ module _ (holding : Holding) (found : Found) where
   pub area-nowhere : found ≡ Nowhere → emptyArea ≡ areaAt holding found
   unfolding areaAt
   area-nowhere e = simp e
+
+-- an area taken out of a holding, and the place where it was found
+pub looked-as : (holding : Holding) (found place : Found) (area : Area) → found ≡ place → area ≡ areaAt holding found
+    → record { count = holding .count; found = found; area = area } ≡ lookedAt holding place
+looked-as holding found place area f a =
+    let with : Area → Looked = λ x. record { count = holding .count; found = found; area = x } in
+    ap with a ∙ ap (lookedAt holding) f
 
 module _ (area : Area) (found : Found) where
   pub sub-here : (i : ℕ) (d : Sub) → found ≡ At i → i < length (area .subs) → getD (area .subs) i d ≡ subAt area found

@@ -21,9 +21,13 @@ unfoldable pub areaAt : Holding → Found → Area
 areaAt holding (At i) = getD (holding .areas) i emptyArea
 areaAt holding Nowhere = emptyArea
 
--- what a step is given of a holding: how many areas stand, and the one area that its entry names
+-- what a step is given of a holding: how many areas stand, and the one area at a place
+abbrev pub lookedAt : Holding → Found → Looked
+lookedAt holding found = record { count = holding .count; found = found; area = areaAt holding found }
+
+-- the area of a number
 abbrev pub lookedUp : Holding → ℕ → Looked
-lookedUp holding number = let found = findArea holding number in record { count = holding .count; found = found; area = areaAt holding found }
+lookedUp holding number = lookedAt holding (findArea holding number)
 
 unfoldable pub subAt : Area → Found → Sub
 subAt area (At i) = getD (area .subs) i emptySub

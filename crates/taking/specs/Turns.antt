@@ -16,7 +16,7 @@ use Rattle.holding.specs.declared.Found.the-variants.{At, Nowhere}
 use Rattle.holding.specs.Holding.{emptyArea}
 use Rattle.holding.specs.Find.{findArea}
 use Rattle.standing.specs.declared.Looked.{Looked}
-use Rattle.standing.specs.Standing.{areaAt}
+use Rattle.standing.specs.Standing.{lookedAt}
 use Rattle.outcomes.specs.declared.Outcome.{Outcome}
 use Rattle.outcomes.specs.declared.Report.the-variants.{Nothing}
 use Rattle.outcomes.specs.Outcomes.{turnedBack, accepted, answered}
@@ -60,8 +60,5 @@ abbrev pub foundFor : Holding → Parsed → Found
 foundFor holding (Taken entry) = findArea holding (areaNamed entry)
 foundFor holding (Turned refusal) = Nowhere
 
-abbrev pub lookedFor : Holding → Parsed → Looked
-lookedFor holding parsed = let found = foundFor holding parsed in record { count = holding .count; found = found; area = areaAt holding found }
-
 unfoldable pub turnOf : List ℕ → List ℕ → Holding → List ℕ → Turn
-turnOf own default holding line = let parsed = entryOf line in parsedTurn own default (lookedFor holding parsed) line parsed
+turnOf own default holding line = let parsed = entryOf line in parsedTurn own default (lookedAt holding (foundFor holding parsed)) line parsed
