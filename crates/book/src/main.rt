@@ -1,5 +1,5 @@
 // Lists the book on standard input.
-use books::ROOM;
+use book_list::ROOM;
 use libc::STDIN_FILENO;
 use libc::STDOUT_FILENO;
 
@@ -16,6 +16,6 @@ fn main() {
     let mut book = room_for_book();
     let length = io::read_full(STDIN_FILENO, &mut book);
     let mut listing = room_for_listing();
-    let count = books::list_whole(&book[..length], &mut listing);
+    let count = book_list::list_whole(&book[..length], &mut listing);
     io::write_all(STDOUT_FILENO, &listing[..count]);
 }

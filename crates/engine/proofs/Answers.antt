@@ -12,12 +12,12 @@ use Rattle.refusals.specs.declared.Verdict.{Verdict}
 use Rattle.refusals.specs.declared.Verdict.the-variants.{Clear as Accepted, Turned as Refused}
 use Rattle.refusals.specs.Refusals.{numberOf}
 use Rattle.refusals.proofs.Laws.{clear-before}
-use Rattle.answers.specs.declared.Written.{Written}
-use Rattle.answers.specs.declared.Written.the-variants.{Count, Refused as Unwritten}
-use Rattle.answers.specs.Answers.{written}
-use Rattle.calling.specs.Call.{withRoom, callVerdict, callBytes, callWeighed, answerOf, callAnswer}
-use Rattle.calls.specs.Calls.{mostWritten}
-use Rattle.calls.proofs.Bound.{call-few}
+use Rattle.refusals.specs.declared.Written.{Written}
+use Rattle.refusals.specs.declared.Written.the-variants.{Count, Refused as Unwritten}
+use Rattle.refusals.specs.Answers.{written}
+use Rattle.call_line.specs.Call.{withRoom, callVerdict, callBytes, callWeighed, answerOf, callAnswer}
+use Rattle.call_book.specs.Calls.{mostWritten}
+use Rattle.call_book.proofs.Bound.{call-few}
 
 by-count : (v : Verdict) (bytes : List ℕ) (n : ℕ) → written v bytes ≡ Count n → (v ≡ Accepted) × (n ≡ length bytes) × (pos n ≡ answerOf v bytes)
 unfolding written

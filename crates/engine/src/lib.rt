@@ -3,9 +3,9 @@ ghost use mathlib.Core.Path.{_≡_};
 ghost use lib.IntN.{negℤ, pos};
 ghost use lib.ListN.{length};
 ghost use Rattle.refusals.specs.Refusals.{numberOf};
-ghost use Rattle.calling.specs.Call.{callAnswer, callOutput};
-use answers::Written;
+ghost use Rattle.call_line.specs.Call.{callAnswer, callOutput};
 use refusals::Refusal;
+use refusals::Written;
 
 // A refusal's number with a minus sign.
 fn minus(refusal: Refusal) -> i64
@@ -26,7 +26,7 @@ pub extern "C" fn carbon_account_line(
     ensures { λ r. ⌜ r ≡ callAnswer (now (statement .entry)) (now (table .entry)) (now (line .entry)) (length (now (out .entry))) ⌝ }
     ensures { λ _. ⌜ now (out .exit) ≡ callOutput (now (statement .entry)) (now (table .entry)) (now (line .entry)) (now (out .entry)) ⌝ }
 {
-    let answer = calling::call(statement, table, line, out);
+    let answer = call_line::call(statement, table, line, out);
     match answer {
         Written::Refused(refusal) => minus(refusal),
         Written::Count(count) => count as i64,

@@ -1,14 +1,14 @@
 -- What an answer about land comes to, as a number; 0 for a refusal.
 use Prim.Native.Nat.{ℕ}
 use mathlib.Core.List.{List}
-use Rattle.deforestation.specs.declared.Emissions.{Emissions}
-use Rattle.deforestation.specs.declared.Emissions.the-variants.{Tonnes, Turned as Refused}
-use Rattle.deforestation.specs.Emissions.{emissionsOf}
-use Rattle.groups.specs.declared.Group.{Group}
-use Rattle.parcels.specs.declared.Parcel.{Parcel}
-use Rattle.trees.specs.declared.Hectare.{Hectare}
-use Rattle.trees.specs.declared.Hectare.the-variants.{Of, Turned}
-use Rattle.trees.specs.Hectares.{hectareOf}
+use Rattle.land_deforestation.specs.declared.Emissions.{Emissions}
+use Rattle.land_deforestation.specs.declared.Emissions.the-variants.{Tonnes, Turned as Refused}
+use Rattle.land_deforestation.specs.Emissions.{emissionsOf}
+use Rattle.land_groups.specs.declared.Group.{Group}
+use Rattle.land_parcels.specs.declared.Parcel.{Parcel}
+use Rattle.land_trees.specs.declared.Hectare.{Hectare}
+use Rattle.land_trees.specs.declared.Hectare.the-variants.{Of, Turned}
+use Rattle.land_trees.specs.Hectares.{hectareOf}
 
 abbrev pub tonnesIn : Emissions → ℕ
 tonnesIn (Tonnes n) = n

@@ -1,21 +1,21 @@
 // Runs the guide's examples of pre-1990 land and of the trees of a hectare (002, 4.5 and 5.2).
 ghost use mathlib.Core.Path.{_≡_};
 ghost use lib.ListN.{take};
-ghost use Rattle.trees.specs.Hectares.{hectareOf};
+ghost use Rattle.land_trees.specs.Hectares.{hectareOf};
 ghost use Rattle.examples_land.specs.Land.{tonnesOf, agedOf};
-use clearings::Clearing;
-use deforestation::Emissions;
 use forest::Forest;
 use forest::Region;
-use groups::Group;
-use parcels::Parcel;
-use trees::Hectare;
+use land_clearings::Clearing;
+use land_deforestation::Emissions;
+use land_groups::Group;
+use land_parcels::Parcel;
+use land_trees::Hectare;
 
 // The tonnes that parcels emit; 0 where they are refused.
 fn emitted(parcels: [Parcel; 64], count: usize) -> u64
     ensures { λ r. ⌜ r ≡ tonnesOf count (take count parcels) ⌝ }
 {
-    let emissions = deforestation::calculate(parcels, count);
+    let emissions = land_deforestation::calculate(parcels, count);
     match emissions {
         Emissions::Tonnes(tonnes) => tonnes,
         Emissions::Turned(_) => 0,
@@ -26,7 +26,7 @@ fn emitted(parcels: [Parcel; 64], count: usize) -> u64
 fn determined(groups: [Group; 3]) -> Hectare
     ensures { λ r. ⌜ r ≡ hectareOf groups ⌝ }
 {
-    trees::determine(&groups)
+    land_trees::determine(&groups)
 }
 
 // The age of a hectare; 0 where its tree list is refused.

@@ -2,9 +2,9 @@
 use Prim.Native.Nat.{ℕ}
 use mathlib.Core.List.{List}
 use Rattle.refusals.specs.Refusals.{numberOf}
-use Rattle.entries.specs.declared.Parsed.{Parsed}
-use Rattle.entries.specs.declared.Parsed.the-variants.{Taken, Turned}
-use Rattle.lines.specs.Lines.{entryOf}
+use Rattle.line_entry.specs.declared.Parsed.{Parsed}
+use Rattle.line_entry.specs.declared.Parsed.the-variants.{Taken, Turned}
+use Rattle.line.specs.Lines.{entryOf}
 
 abbrev pub numberIf : Parsed → ℕ
 numberIf (Taken e) = 0

@@ -1,13 +1,13 @@
 // Lines read and refused, by the bytes (document 01, "Entries" and "Turned back by the input").
 ghost use mathlib.Core.Path.{_≡_};
 ghost use Rattle.examples_lines.specs.Answers.{numberFor};
-use entries::Parsed;
+use line_entry::Parsed;
 
 // The number that a line is refused under, and 0 for an entry.
 fn refused_under(line: &[u8]) -> u8
     ensures { λ r. ⌜ r ≡ numberFor (now (line .entry)) ⌝ }
 {
-    let parsed = lines::parse(line);
+    let parsed = line::parse(line);
     let Parsed::Turned(refusal) = parsed else {
         return 0;
     };

@@ -9,24 +9,24 @@ use Rattle.refusals.specs.Refusals.{weighed, weighAll, smallest}
 use Rattle.units.specs.Units.{treesOf, residueOf}
 use Rattle.units.specs.Tonnes.{tonnes, value, changeBetween}
 use Rattle.schedules.specs.Schedules.{placeSix, schedule6}
-use Rattle.parts.specs.Parts.{lengthOf}
-use Rattle.lent.specs.Lent.{ownColumn}
+use Rattle.table_parts.specs.Parts.{lengthOf}
+use Rattle.table_lent.specs.Lent.{ownColumn}
 use Rattle.rates.specs.Rates.{consulted, cellAt, rateSix}
 use Rattle.rates.specs.Decay.{shareAfter}
 use Rattle.stocks.specs.Stocks.{treesOn, residueOn, subStock, areaStock}
 use Rattle.holding.specs.Find.{placeFrom, findArea, findSub}
-use Rattle.standing.specs.Standing.{areaAt, subAt, withSub}
-use Rattle.carried.specs.Carried.{yearsCarried, amountsCarried, fieldsCarried}
-use Rattle.outcomes.specs.Outcomes.{answered, placed, areaCases}
-use Rattle.opening.specs.Opening.{openCases, opened}
-use Rattle.adding.specs.Adding.{addCases, addedArea, added}
-use Rattle.clearing.specs.Clearing.{clearCases, clearedSub, clearedArea, cleared}
-use Rattle.planting.specs.Planting.{plantCases, plantedSub, plantedArea, planted}
-use Rattle.filing.specs.Filing.{fileCases, changeOf, filedArea, returnOf, filed}
-use Rattle.withdrawing.specs.Withdrawing.{withdrawCases, withdrawnArea, withdrawn}
-use Rattle.steps.specs.Steps.{applied}
+use Rattle.holding_look.specs.Standing.{areaAt, subAt, withSub}
+use Rattle.statement_carried.specs.Carried.{yearsCarried, amountsCarried, fieldsCarried}
+use Rattle.step_outcome.specs.Outcomes.{answered, placed, areaCases}
+use Rattle.step_open.specs.Opening.{openCases, opened}
+use Rattle.step_add.specs.Adding.{addCases, addedArea, added}
+use Rattle.step_clear.specs.Clearing.{clearCases, clearedSub, clearedArea, cleared}
+use Rattle.step_plant.specs.Planting.{plantCases, plantedSub, plantedArea, planted}
+use Rattle.step_file.specs.Filing.{fileCases, changeOf, filedArea, returnOf, filed}
+use Rattle.step_withdraw.specs.Withdrawing.{withdrawCases, withdrawnArea, withdrawn}
+use Rattle.step.specs.Steps.{applied}
 use Rattle.forest.specs.declared.Forest.the-variants.{DouglasFir, ExoticHardwoods}
-use Rattle.entries.specs.declared.Entry.the-variants.{File}
+use Rattle.line_entry.specs.declared.Entry.the-variants.{File}
 use Rattle.examples_steps.specs.Told.{toldOf, firstStock, afterOn, plantedOn}
 
 abbrev pub aged : List ℕ

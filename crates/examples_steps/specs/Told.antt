@@ -3,16 +3,16 @@ use Prim.Native.Nat.{ℕ}
 use mathlib.Core.List.{List}
 use lib.ListN.{getD}
 use Rattle.forest.specs.declared.Forest.{Forest}
-use Rattle.entries.specs.declared.Entry.{Entry}
-use Rattle.entries.specs.declared.Entry.the-variants.{Open, Add}
+use Rattle.line_entry.specs.declared.Entry.{Entry}
+use Rattle.line_entry.specs.declared.Entry.the-variants.{Open, Add}
 use Rattle.units.specs.declared.Change.{Change}
 use Rattle.units.specs.declared.Change.the-variants.{Gain, Loss}
 use Rattle.holding.specs.declared.Holding.{Holding}
 use Rattle.holding.specs.Holding.{emptyArea, emptyHolding}
-use Rattle.outcomes.specs.declared.Report.{Report}
-use Rattle.outcomes.specs.declared.Report.the-variants.{Nothing, Return, Withdrawal}
-use Rattle.outcomes.specs.Outcomes.{placed}
-use Rattle.steps.specs.Steps.{applied}
+use Rattle.step_outcome.specs.declared.Report.{Report}
+use Rattle.step_outcome.specs.declared.Report.the-variants.{Nothing, Return, Withdrawal}
+use Rattle.step_outcome.specs.Outcomes.{placed}
+use Rattle.step.specs.Steps.{applied}
 use Rattle.examples_steps.specs.declared.Figures.{Figures}
 
 abbrev pub silent : Figures

@@ -1,11 +1,11 @@
 // Runs document 01's examples of steps: the ages of a stand, and an area whose stock falls before it grows.
 ghost use mathlib.Core.Path.{_≡_};
 ghost use Rattle.examples_steps.specs.Told.{toldBy, toldOf, firstStock, afterOn, plantedOn};
-use entries::Entry;
 use forest::Forest;
 use holding::Holding;
-use outcomes::Outcome;
-use outcomes::Report;
+use line_entry::Entry;
+use step_outcome::Outcome;
+use step_outcome::Report;
 use units::Change;
 use units::Tenths;
 
@@ -67,8 +67,8 @@ fn told(outcome: Outcome) -> Figures
 fn after<'a>(own: &'a [u16], default: &'a [u16], holding: Holding, entry: Entry) -> Holding
     ensures { λ r. ⌜ r ≡ afterOn (now (own .entry)) (now (default .entry)) holding entry ⌝ }
 {
-    let outcome = steps::apply(own, default, holding, entry);
-    outcomes::place(holding, outcome)
+    let outcome = step::apply(own, default, holding, entry);
+    step_outcome::place(holding, outcome)
 }
 
 fn first_stock(holding: Holding) -> u64
@@ -157,7 +157,7 @@ fn falling_return() {
     let default = schedules::schedule_six();
     let own = [0, 0, 0, 3, 0, 0, 0, 0, 0, 0, 1000, 700, 1200];
     let opened = planted(&own, &default, 2010, Forest::ExoticHardwoods, 2010);
-    let first = told(steps::apply(
+    let first = told(step::apply(
         &own,
         &default,
         opened,
@@ -182,7 +182,7 @@ fn rising_return() {
             last: 2010,
         },
     );
-    let second = told(steps::apply(
+    let second = told(step::apply(
         &own,
         &default,
         filed,

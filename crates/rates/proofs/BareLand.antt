@@ -10,7 +10,7 @@ use Rattle.schedules.specs.declared.Kind.{Kind}
 use Rattle.schedules.specs.declared.Kind.the-variants.{Stock, Residue}
 use Rattle.schedules.specs.Columns.{Column, listed}
 use Rattle.schedules.specs.Schedules.{placeSix}
-use Rattle.parts.proofs.Lengths.{no-length}
+use Rattle.table_parts.proofs.Lengths.{no-length}
 use Rattle.rates.specs.Rates.{ownNumber, atPlace, cellAt, rateSix}
 use Rattle.rates.proofs.LookUp.{without-cells, defaults}
 

@@ -16,9 +16,9 @@ use Rattle.schedules.specs.declared.Place.{Place}
 use Rattle.schedules.specs.Columns.{Column, listed}
 use Rattle.schedules.specs.Schedules.{cellCeiling, schedule4, schedule6, placeFour, placeSix}
 use Rattle.schedules.proofs.Ceiling.{four-ceiling, six-ceiling}
-use Rattle.parts.specs.Parts.{columnCount, lengthsOf, cellsOf, lengthOf}
-use Rattle.tables.specs.Participant.{longestColumn, hasColumns, isTable}
-use Rattle.lent.specs.Lent.{ownColumn}
+use Rattle.table_parts.specs.Parts.{columnCount, lengthsOf, cellsOf, lengthOf}
+use Rattle.table.specs.Participant.{longestColumn, hasColumns, isTable}
+use Rattle.table_lent.specs.Lent.{ownColumn}
 use Rattle.rates.specs.Rates.{ownNumber, atPlace, consulted, cellAt, rateSix, rateFour}
 
 -- a column that keeps the ceiling

@@ -10,8 +10,8 @@ use Rattle.schedules.specs.declared.Place.{Place}
 use Rattle.schedules.specs.Columns.{Column, listed}
 use Rattle.schedules.specs.Schedules.{schedule4, schedule6, columnFour, columnSix, placeFour, placeSix}
 use Rattle.schedules.proofs.Parts.{Holds, four-holds, six-holds}
-use Rattle.parts.specs.Parts.{lengthOf}
-use Rattle.lent.specs.Lent.{ownColumn}
+use Rattle.table_parts.specs.Parts.{lengthOf}
+use Rattle.table_lent.specs.Lent.{ownColumn}
 use Rattle.rates.specs.Rates.{ownNumber, atPlace, consulted}
 
 held-column : (cells : List ℕ) (p : Place) (column : Column) → Holds cells p column → atPlace cells p ≡ column

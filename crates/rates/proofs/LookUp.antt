@@ -12,8 +12,8 @@ use Rattle.forest.specs.declared.Forest.the-variants.{Bare, Radiata, DouglasFir
 use Rattle.schedules.specs.declared.Kind.{Kind}
 use Rattle.schedules.specs.Columns.{listed}
 use Rattle.schedules.specs.Schedules.{placeSix}
-use Rattle.parts.specs.Parts.{lengthOf}
-use Rattle.lent.specs.Lent.{ownColumn}
+use Rattle.table_parts.specs.Parts.{lengthOf}
+use Rattle.table_lent.specs.Lent.{ownColumn}
 use Rattle.rates.specs.Rates.{ownStock, ownNumber, atPlace, consulted, firstAge, cellAt}
 
 module _ (first : ℕ) (cells : List ℕ) (age : ℕ) where

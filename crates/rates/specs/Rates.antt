@@ -12,8 +12,8 @@ use Rattle.schedules.specs.declared.Kind.the-variants.{Stock, Residue}
 use Rattle.schedules.specs.declared.Place.{Place}
 use Rattle.schedules.specs.Columns.{Column, listed}
 use Rattle.schedules.specs.Schedules.{placeFour, placeSix}
-use Rattle.parts.specs.Parts.{columnCount, lengthOf}
-use Rattle.lent.specs.Lent.{ownColumn}
+use Rattle.table_parts.specs.Parts.{columnCount, lengthOf}
+use Rattle.table_lent.specs.Lent.{ownColumn}
 
 -- "for stock of P, D, S, H, N, then residue in that order"; "P serves all regions"; bare land has no column
 abbrev pub ownStock : Forest → ℕ

@@ -49,18 +49,18 @@ pub fn column<'a>(own: &'a [u16], default: &'a [u16], kind: Kind, forest: Forest
     ensures { λ r. ⌜ now r ≡ consulted (now (own .entry)) (now (default .entry)) kind forest .cells ⌝ }
 {
     let number = own_number(kind, forest);
-    if parts::column_length(own, number) == 0 {
+    if table_parts::column_length(own, number) == 0 {
         let place = schedules::place_six(kind, forest);
-        return parts::part(default, place.start, place.len);
+        return table_parts::part(default, place.start, place.len);
     }
-    lent::column(own, number)
+    table_lent::column(own, number)
 }
 
 // The first age of the column consulted.
 fn first_age(own: &[u16], kind: Kind, forest: Forest) -> usize
     ensures { λ r. ⌜ r ≡ firstAge (now (own .entry)) kind forest ⌝ }
 {
-    if parts::column_length(own, own_number(kind, forest)) == 0 {
+    if table_parts::column_length(own, own_number(kind, forest)) == 0 {
         let place = schedules::place_six(kind, forest);
         return place.first;
     }
@@ -108,6 +108,6 @@ pub fn rate_four(cells: &[u16], forest: Forest, age: u16) -> Rate
     ensures { λ r. ⌜ r ≡ rateFour (now (cells .entry)) forest age ⌝ }
 {
     let place = schedules::place_four(forest);
-    let column = parts::part(cells, place.start, place.len);
+    let column = table_parts::part(cells, place.start, place.len);
     Rate(cell_at(column, place.first, age))
 }

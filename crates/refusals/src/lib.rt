@@ -1,4 +1,4 @@
-// Refusals under document 01's numbers, and the smallest that applies.
+// Refusals under document 01's numbers, the smallest that applies, and what a write into a lent buffer answers.
 ghost use mathlib.Core.Path.{_≡_};
 ghost use Rattle.refusals.specs.Refusals.{numberOf, weighed};
 
@@ -33,6 +33,12 @@ pub enum Refusal {
 pub enum Verdict {
     Clear,
     Turned(Refusal),
+}
+
+// How many bytes or numbers were written, or why none were.
+pub enum Written {
+    Count(usize),
+    Refused(Refusal),
 }
 
 pub fn number(refusal: Refusal) -> u8

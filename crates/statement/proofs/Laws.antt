@@ -8,7 +8,7 @@ use Rattle.refusals.specs.declared.Verdict.the-variants.{Clear, Turned}
 use Rattle.refusals.specs.Refusals.{weighed, weighAll, smallest}
 use Rattle.holding.specs.declared.Holding.{Holding}
 use Rattle.holding.specs.Holding.{emptyHolding}
-use Rattle.reading.specs.declared.HoldingRead.{HoldingRead}
+use Rattle.statement_parse.specs.declared.HoldingRead.{HoldingRead}
 use Rattle.statement.specs.Statement.{accepts, acceptable, readIf}
 
 module _ (s : List ℕ) (read : HoldingRead) where

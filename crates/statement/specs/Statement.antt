@@ -10,9 +10,9 @@ use Rattle.refusals.specs.declared.Verdict.the-variants.{Clear, Turned}
 use Rattle.refusals.specs.Refusals.{_⇒_, smallest}
 use Rattle.holding.specs.declared.Holding.{Holding}
 use Rattle.holding.specs.Holding.{emptyHolding}
-use Rattle.carried.specs.Carried.{carried}
-use Rattle.reading.specs.declared.HoldingRead.{HoldingRead}
-use Rattle.reading.specs.Reading.{holdingAt}
+use Rattle.statement_carried.specs.Carried.{carried}
+use Rattle.statement_parse.specs.declared.HoldingRead.{HoldingRead}
+use Rattle.statement_parse.specs.Reading.{holdingAt}
 use Rattle.statement.specs.declared.Read.{Read}
 
 -- the bytes were read to their end, and the holding is one that a statement carries; that "the bytes are the writer's" then is

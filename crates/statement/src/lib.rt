@@ -14,10 +14,10 @@ pub struct Read {
 pub fn read_from(bytes: &[u8]) -> Read
     ensures { λ r. ⌜ r ≡ readOf (now (bytes .entry)) ⌝ }
 {
-    let found = reading::read_holding(bytes);
+    let found = statement_parse::read_holding(bytes);
     let next = found.next;
     let holding = found.holding;
-    let kept = judging::holding(holding);
+    let kept = statement_judge::holding(holding);
     if (0 < next) & (next == bytes.len()) & kept {
         return Read {
             verdict: Verdict::Clear,

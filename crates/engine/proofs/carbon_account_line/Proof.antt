@@ -7,7 +7,7 @@ use mir.Syntax.{w64}
 use mir.Val.{toZ, ofZ}
 use mir.Facts.{toZ-pos}
 use Rattle.refusals.specs.Refusals.{numberOf}
-use Rattle.printing.proofs.Lengths.{two-digits}
+use Rattle.book_print.proofs.Lengths.{two-digits}
 use Rattle.engine.proofs.Signed.{minus-read}
 use Rattle.engine.proofs.Answers.{refusal-answered, count-answered, count-few}
 use borrow.Author.Needs.{needs}

@@ -2,8 +2,8 @@
 use Rattle.schedules.specs.Columns.{joined, placesFrom}
 use Rattle.schedules.specs.Cells.{stock6, residue6}
 use Rattle.schedules.specs.Schedules.{placeSix, schedule6}
-use Rattle.parts.specs.Parts.{lengthOf}
-use Rattle.lent.specs.Lent.{ownColumn}
+use Rattle.table_parts.specs.Parts.{lengthOf}
+use Rattle.table_lent.specs.Lent.{ownColumn}
 use Rattle.rates.specs.Rates.{consulted, cellAt, rateSix}
 use Rattle.examples.specs.Examples.{sixIs}
 use borrow.Author.Needs.{needs}

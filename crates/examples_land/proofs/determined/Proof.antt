@@ -44,17 +44,17 @@ use denote.Triple.Table.{entered, cited}
 use denote.Triple.Walked.{says, Stays, stay-dropped, walkOf, goes-dropped, Walks, ends-at, walked, walk-meets}
 use denote.Exit.{yes}
 use Rattle.laws.proofs.Calls.{calls-known}
-use Rattle.groups.specs.declared.Group.{Group}
-use Rattle.groups.proofs.Group as G
-use Rattle.groups.proofs.Group.Laws as G′
-use Rattle.trees.specs.declared.Hectare.{Hectare}
-use Rattle.trees.specs.Hectares.{hectareOf}
-use Rattle.trees.proofs.Hectare as X
-use Rattle.trees.proofs.Hectare.Laws as X′
-use Rattle.trees.proofs.determine as determine
-use Rattle.trees.proofs.determine.Symbol as determine-def
-use Rattle.trees.proofs.determine.Symbol.{name as #trees·determine}
-use Rattle.trees.proofs.determine.Met as determine-thm
+use Rattle.land_groups.specs.declared.Group.{Group}
+use Rattle.land_groups.proofs.Group as G
+use Rattle.land_groups.proofs.Group.Laws as G′
+use Rattle.land_trees.specs.declared.Hectare.{Hectare}
+use Rattle.land_trees.specs.Hectares.{hectareOf}
+use Rattle.land_trees.proofs.Hectare as X
+use Rattle.land_trees.proofs.Hectare.Laws as X′
+use Rattle.land_trees.proofs.determine as determine
+use Rattle.land_trees.proofs.determine.Symbol as determine-def
+use Rattle.land_trees.proofs.determine.Symbol.{name as #land-trees·determine}
+use Rattle.land_trees.proofs.determine.Met as determine-thm
 use Rattle.examples_land.proofs.determined.Key.{name as #examples-land·determined}
 use Rattle.examples_land.proofs.determined as determined
 use Rattle.examples_land.proofs.determined.Statement as stated
@@ -134,7 +134,7 @@ module _ {M : Type 1} (𝓤 : URA M) (H : Heap 𝓤) (A : Atoms 𝓤) (W : Given
       qed W (‵ (flft (α ∷ []) fullShare) ∷ ‵ (ShrSlice (named 0) (α ∷ []) G.the-row .own (lent b γ) (v b ∷ [])) ∷ []) ∵
       nothing ! $ move ! (1 ∷ 0 ∷ []) $ join ! $ nothing ! $ move ! (2 ∷ 0 ∷ []) $ fjoin ! $ move ! (1 ∷ 0 ∷ []) $ join ! $ frame ! $ done !
 
-  module _ (𝓣 : Tables 𝓤 H) (known : Triple 𝓤 (𝓣 .C #trees·determine) (Determines 𝓤 H A mem run)) where
+  module _ (𝓣 : Tables 𝓤 H) (known : Triple 𝓤 (𝓣 .C #land-trees·determine) (Determines 𝓤 H A mem run)) where
     walk : ent 𝓤 (onEntry 𝓤 H A determined.signature tt tt (gs, tt) (three gs, tt)) (WpFn 𝓤 H (𝓣 .C) (𝓣 .Λ) code.function (three gs) Post)
     walk =
         let typed = array-typed G.the-row (LL.lawful G.the-type G′.the-laws 𝓤 H A W .typed) 3 gs (three gs) is .0 in
@@ -157,7 +157,7 @@ module _ {M : Type 1} (𝓤 : URA M) (H : Heap 𝓤) (A : Atoms 𝓤) (W : Given
         land ! (from ! (stop !)) (init ! 10 refl (EL.lawful X.the-type X′.the-laws 𝓤 H A W tt .typed r _ is′ .0)) $ returns ! (look ! 10 refl) $ forget ! 3 refl $ forget ! 5 refl $ forget ! 8 refl $ forget ! 10 refl $
         move ! (10 ∷ 11 ∷ []) $ free1 ! $ move ! (8 ∷ 9 ∷ []) $ free1 ! $ move ! (0 ∷ 7 ∷ []) $ free1 ! $ move ! (4 ∷ 5 ∷ []) $ free1 ! $ move ! (2 ∷ 3 ∷ []) $ free1 ! $ free0 ! $ keep ! [] $ by ! (exits r u said is′)))))))))
 
-module _ {M : Type 1} (𝓤 : URA M) (H : Heap 𝓤) (A : Atoms 𝓤) (W : Given 𝓤 H A) (mem : Memory → SProp 𝓤) (run : Routine → Fun 𝓤) (𝓣 : Tables 𝓤 H) (known : Triple 𝓤 (𝓣 .C #trees·determine) (Determines 𝓤 H A mem run)) where
+module _ {M : Type 1} (𝓤 : URA M) (H : Heap 𝓤) (A : Atoms 𝓤) (W : Given 𝓤 H A) (mem : Memory → SProp 𝓤) (run : Routine → Fun 𝓤) (𝓣 : Tables 𝓤 H) (known : Triple 𝓤 (𝓣 .C #land-trees·determine) (Determines 𝓤 H A mem run)) where
   determined-walks : Walks 𝓤 H A determined.ended stayed (WpFn 𝓤 H (𝓣 .C) (𝓣 .Λ) code.function) (determined.clauses 𝓤 H A mem run)
   determined-walks = walked 𝓤 H A determined.ended stayed (determined.clauses 𝓤 H A mem run) (WpFn 𝓤 H (𝓣 .C) (𝓣 .Λ) code.function) (λ κs. (three, tt)) (λ κs. (array-tells G.the-row vals (LL.tells G.the-type G′.the-laws) 3, tt))
       (λ κs qs bounds a g are. via 𝓤 _ (fst∗ 𝓤 _ (emp 𝓤)) (walk 𝓤 H A W mem run (a .0) (are .0) 𝓣 known))
@@ -171,4 +171,4 @@ determined-spec 𝓤 H 𝓜 𝓖 𝓡 =
     entered 𝓤 H (tripleOf 𝓤 H (𝓖 .A) determined.signature (determined.spec 𝓤 H (𝓖 .A) (𝓜 .mem) (𝓡 .run)))
     (tables 𝓤 H 𝓜 𝓡 code.env .C) (tables 𝓤 H 𝓜 𝓡 code.env .Λ) #examples-land·determined code.function (code.unfolded 𝓤 H 𝓜 𝓡)
     (determined-meets 𝓤 H (𝓖 .A) (givenOf 𝓤 H 𝓜 𝓖) (𝓜 .mem) (𝓡 .run) (tablesOf 𝓤 H 𝓜 (tables 𝓤 H 𝓜 𝓡 code.env))
-    (cited 𝓤 H (Determines 𝓤 H (𝓖 .A) (𝓜 .mem) (𝓡 .run)) 𝓜 𝓡 code.env #trees·determine determine-def.routine code.calls-trees·determine (determine-thm.met 𝓤 H 𝓜 𝓖 𝓡)))
+    (cited 𝓤 H (Determines 𝓤 H (𝓖 .A) (𝓜 .mem) (𝓡 .run)) 𝓜 𝓡 code.env #land-trees·determine determine-def.routine code.calls-land-trees·determine (determine-thm.met 𝓤 H 𝓜 𝓖 𝓡)))

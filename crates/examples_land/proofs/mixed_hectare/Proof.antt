@@ -2,9 +2,9 @@
 use borrow.Author.Tests.{eq-eqb}
 use Rattle.laws.specs.Elements.{some, sumBy}
 use Rattle.refusals.specs.Refusals.{weighed, weighAll, smallest}
-use Rattle.groups.specs.Sums.{speciesArea, weightsOf, halfUp, meanAge}
-use Rattle.predominance.specs.Predominance.{leading, predominantOf}
-use Rattle.trees.specs.Hectares.{faultsOf, cases, answerOf, heldOf, hectareOf}
+use Rattle.land_groups.specs.Sums.{speciesArea, weightsOf, halfUp, meanAge}
+use Rattle.land_predominance.specs.Predominance.{leading, predominantOf}
+use Rattle.land_trees.specs.Hectares.{faultsOf, cases, answerOf, heldOf, hectareOf}
 use Rattle.examples_land.specs.Land.{agedOf}
 use borrow.Author.Needs.{needs}
 use Rattle.examples_land.proofs.mixed_hectare.Statement.{statement}

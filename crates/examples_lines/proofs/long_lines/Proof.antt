@@ -5,11 +5,11 @@ use Rattle.units.specs.Units.{tenthsOf}
 use Rattle.refusals.specs.Refusals.{weighed, weighAll, smallest}
 use Rattle.forest.specs.Letters.{beside, letterNames, regionNames, named}
 use Rattle.text.specs.Fields.{extend, split}
-use Rattle.numbers.specs.Numbers.{append, more, headed, numberIn}
-use Rattle.decimals.specs.Decimals.{wholes, withDecimals, decimalIn, hectaresIn}
-use Rattle.entries.specs.Rules.{parsed, areaAndYear, openRule, fileRule, addRule, clearRule, plantRule, withdrawRule}
-use Rattle.columns.specs.Columns.{kindByte, typeByte, alone, kindOf, typeOf, columnRule}
-use Rattle.lines.specs.Lines.{bodyOf, holdsEnd, letterOf, noRule, ruleOf, lineRule, conditions, entryOf}
+use Rattle.text_number.specs.Numbers.{append, more, headed, numberIn}
+use Rattle.text_decimal.specs.Decimals.{wholes, withDecimals, decimalIn, hectaresIn}
+use Rattle.line_entry.specs.Rules.{parsed, areaAndYear, openRule, fileRule, addRule, clearRule, plantRule, withdrawRule}
+use Rattle.line_column.specs.Columns.{kindByte, typeByte, alone, kindOf, typeOf, columnRule}
+use Rattle.line.specs.Lines.{bodyOf, holdsEnd, letterOf, noRule, ruleOf, lineRule, conditions, entryOf}
 use Rattle.examples_lines.specs.Answers.{numberFor}
 use borrow.Author.Needs.{needs}
 use Rattle.examples_lines.proofs.long_lines.Statement.{statement}

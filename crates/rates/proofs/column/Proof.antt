@@ -3,8 +3,8 @@ use mathlib.Core.Path.{sym, ap, _∙_}
 use lib.ListN.{take, drop}
 use Rattle.schedules.specs.declared.Place.{Place}
 use Rattle.schedules.specs.Columns.{Column}
-use Rattle.parts.specs.Parts.{lengthOf}
-use Rattle.lent.specs.Lent.{ownColumn}
+use Rattle.table_parts.specs.Parts.{lengthOf}
+use Rattle.table_lent.specs.Lent.{ownColumn}
 use Rattle.rates.proofs.LookUp.{defaults, participants}
 use Rattle.rates.proofs.column.Statement.{statement}
 use Rattle.rates.proofs.column.Tie as tie

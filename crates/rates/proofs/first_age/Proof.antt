@@ -3,7 +3,7 @@ use mathlib.Core.Path.{sym, ap, _∙_}
 use mathlib.Core.List.{[]}
 use Rattle.schedules.specs.declared.Place.{Place}
 use Rattle.schedules.specs.Columns.{Column}
-use Rattle.parts.specs.Parts.{lengthOf}
+use Rattle.table_parts.specs.Parts.{lengthOf}
 use Rattle.rates.proofs.LookUp.{defaults, participants}
 use Rattle.rates.proofs.first_age.Statement.{statement}
 use Rattle.rates.proofs.first_age.Tie as tie

@@ -1,6 +1,6 @@
 -- `statement::read_from` meets its contract: what was read is tested, and by that the holding is taken or not.
 use mathlib.Core.Path.{ap, _∙_}
-use Rattle.reading.specs.declared.HoldingRead.{HoldingRead}
+use Rattle.statement_parse.specs.declared.HoldingRead.{HoldingRead}
 use Rattle.statement.specs.Statement.{acceptable, readIf, readOf}
 use Rattle.statement.proofs.Laws.{taken, refused}
 use borrow.Author.Needs.{needs}

@@ -1,0 +1,37 @@
+// Lists a book into a lent buffer.
+ghost use mathlib.Core.Path.{_≡_};
+ghost use lib.ListN.{length};
+ghost use Rattle.book_listing.specs.Listing.{listingOf};
+ghost use Rattle.refusals.specs.Answers.{written, bufferAfter};
+ghost use Rattle.statement_write.specs.Writable.{writable};
+ghost use Rattle.book_list.specs.Whole.{Whole};
+use refusals::Refusal;
+use refusals::Written;
+
+// Room for any listing, in bytes.
+pub const ROOM: usize = 720921;
+
+// Writes the listing to the front of `out`, in which there is room for any listing: how many bytes it has.
+pub fn list_whole(book: &[u8], out: &mut [u8; ROOM]) -> usize
+    ensures { λ r. ⌜ Whole (listingOf (now (book .entry))) (now (out .entry)) (now (out .exit)) r ⌝ }
+{
+    book_run::put_listing(book, out)
+}
+
+// Writes the listing to the front of `out`: how many bytes it has, or why it is not written. Where there is room for any listing it is not measured.
+pub fn list(book: &[u8], out: &mut [u8]) -> Written
+    ensures { λ r. ⌜ r ≡ written (writable (listingOf (now (book .entry))) (length (now (out .entry)))) (listingOf (now (book .entry))) ⌝ }
+    ensures { λ _. ⌜ now (out .exit) ≡ bufferAfter (writable (listingOf (now (book .entry))) (length (now (out .entry)))) (listingOf (now (book .entry))) (now (out .entry)) ⌝ }
+{
+    if ROOM <= out.len() {
+        let count = book_run::put_listing(book, out);
+        return Written::Count(count);
+    }
+    let mut unkept = [0u8; 1];
+    let need = book_run::put_listing(book, &mut unkept);
+    if out.len() < need {
+        return Written::Refused(Refusal::OutputShort);
+    }
+    let count = book_run::put_listing(book, out);
+    Written::Count(count)
+}

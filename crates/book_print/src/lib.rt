@@ -1,0 +1,97 @@
+// What is printed of a line and of a book, put into a lent buffer at any place.
+ghost use mathlib.Core.List.{_∷_, []};
+ghost use Rattle.statement_format.specs.Format.{startText, numberText, joined};
+ghost use Rattle.statement_field.specs.Put.{Put};
+ghost use Rattle.book_print.specs.Printing.{lossText, changeText, reportText, pairText, refusalText, endText};
+use refusals::Refusal;
+use step_outcome::Report;
+use units::Change;
+
+// Puts what is said of a loss of tonnes; the answer, here and below, is the place after what was put.
+fn put_loss(out: &mut [u8], at: usize, tonnes: u64) -> usize
+    ensures { λ r. ⌜ Put 22 (now (out .entry)) at (lossText tonnes) (now (out .exit)) r ⌝ }
+{
+    if tonnes == 0 {
+        return statement_field::put_field(out, at, 0, 44);
+    }
+    let next = text::put_byte(out, at, 45);
+    statement_field::put_field(out, next, tonnes, 44)
+}
+
+fn put_change(out: &mut [u8], at: usize, change: Change) -> usize
+    ensures { λ r. ⌜ Put 22 (now (out .entry)) at (changeText change) (now (out .exit)) r ⌝ }
+{
+    match change {
+        Change::Gain(tonnes) => statement_field::put_field(out, at, tonnes, 44),
+        Change::Loss(tonnes) => put_loss(out, at, tonnes),
+    }
+}
+
+// R, the area and the first and last year of a return.
+fn put_years(out: &mut [u8], at: usize, area: u16, first: u16, last: u16) -> usize
+    ensures { λ r. ⌜ Put 20 (now (out .entry)) at (joined (startText 82 ∷ numberText area 44 ∷ numberText first 44 ∷ numberText last 44 ∷ [])) (now (out .exit)) r ⌝ }
+{
+    let next = statement_field::put_start(out, at, 82);
+    let next = statement_field::put_short(out, next, area, 44);
+    let next = statement_field::put_short(out, next, first, 44);
+    statement_field::put_short(out, next, last, 44)
+}
+
+// The units of a return, which end its line.
+fn put_units(out: &mut [u8], at: usize, received: u64, due: u64, balance: u64) -> usize
+    ensures { λ r. ⌜ Put 63 (now (out .entry)) at (joined (numberText received 44 ∷ numberText due 44 ∷ numberText balance 10 ∷ [])) (now (out .exit)) r ⌝ }
+{
+    let next = statement_field::put_field(out, at, received, 44);
+    let next = statement_field::put_field(out, next, due, 44);
+    statement_field::put_field(out, next, balance, 10)
+}
+
+// Puts the line of an accepted R or W entry; of another, nothing.
+pub fn put_report(out: &mut [u8], at: usize, report: Report) -> usize
+    ensures { λ r. ⌜ Put 105 (now (out .entry)) at (reportText report) (now (out .exit)) r ⌝ }
+{
+    match report {
+        Report::Nothing => at,
+        Report::Return {
+            area,
+            first,
+            last,
+            change,
+            received,
+            due,
+            balance,
+        } => {
+            let next = put_years(out, at, area, first, last);
+            let next = put_change(out, next, change);
+            put_units(out, next, received, due, balance)
+        }
+        Report::Withdrawal { area, due } => {
+            let next = statement_field::put_start(out, at, 87);
+            let next = statement_field::put_short(out, next, area, 44);
+            statement_field::put_field(out, next, due, 10)
+        }
+    }
+}
+
+fn put_pair(out: &mut [u8], at: usize, letter: u8, a: u64, b: u64) -> usize
+    ensures { λ r. ⌜ Put 44 (now (out .entry)) at (pairText letter a b) (now (out .exit)) r ⌝ }
+{
+    let next = statement_field::put_start(out, at, letter);
+    let next = statement_field::put_field(out, next, a, 44);
+    statement_field::put_field(out, next, b, 10)
+}
+
+// Puts the line of a refused line, by its number in the book.
+pub fn put_refusal(out: &mut [u8], at: usize, line: u64, refusal: Refusal) -> usize
+    ensures { λ r. ⌜ Put 26 (now (out .entry)) at (refusalText line refusal) (now (out .exit)) r ⌝ }
+{
+    let number = refusals::number(refusal);
+    put_pair(out, at, 88, line, number as u64)
+}
+
+// Puts the book's last line: how many lines were accepted, and how many refused.
+pub fn put_end(out: &mut [u8], at: usize, accepted: u64, refused: u64) -> usize
+    ensures { λ r. ⌜ Put 44 (now (out .entry)) at (endText accepted refused) (now (out .exit)) r ⌝ }
+{
+    put_pair(out, at, 69, accepted, refused)
+}

@@ -1,0 +1,98 @@
+-- A listing has at most 11 bytes for each byte of its book and one more, and 14 for E: a line prints at most 11 bytes for each of its own and its end,
+-- since a refusal takes no more than 11 and the lines that print more are as much longer themselves.
+use Prim.Native.Nat.{ℕ, suc, _+_, _*_, _≤_, _<_}
+use mathlib.Core.Bool.{Bool, true, false, cond}
+use mathlib.Core.Path.{ap}
+use mathlib.Core.List.{List, [], _∷_, _++_}
+use mathlib.Core.Logic.{⊎-elim}
+use native.Mathlib.Omega.{arith}
+use lib.Dec.{eqb}
+use lib.ListN.{length, length-append}
+use Rattle.laws.specs.Elements.{sumBy}
+use Rattle.laws.proofs.Order.{below-or-not}
+use Rattle.text.specs.Fields.{extend}
+use Rattle.refusals.specs.declared.Refusal.the-variants.{Form}
+use Rattle.refusals.specs.declared.Verdict.{Verdict}
+use Rattle.refusals.specs.declared.Verdict.the-variants.{Clear as Accepted, Turned as Refused}
+use Rattle.step_outcome.specs.declared.Outcome.{Outcome}
+use Rattle.book_print.specs.Printing.{reportText, refusalText, endText}
+use Rattle.book_print.proofs.Lengths.{refusal-few, end-few}
+use Rattle.book_listing.specs.Lines.{linesOf}
+use Rattle.book_listing.specs.Listing.{lineTaken, Run, start, next, printedFor, printed, listFrom, longestBook, listingOf}
+use Rattle.book_listing.proofs.Folding.{start-none, next-counts, listing-over, listing-lines}
+use Rattle.book_room.specs.Room.{mostForByte, mostForEnd, roomForAny}
+use Rattle.book_room.proofs.Runs.{line-length, RunKept, start-kept, next-kept}
+
+-- a line's bytes and its end
+abbrev weight : List ℕ → ℕ
+weight line = length line + 1
+
+printed-for : (number m : ℕ) (v : Verdict) (outcome : Outcome) → number < 100000 → 11 ≤ m → length (reportText (outcome .report)) ≤ m
+    → length (printedFor number v outcome) ≤ m
+unfolding printedFor
+printed-for number m Accepted outcome n h l = l
+printed-for number m (Refused r) outcome n h l = omega (arith, refusal-few 4 number r n)
+
+printed-length : (run : Run) (line : List ℕ) → RunKept run → run .accepted + run .refused + 1 < 100000 → length (printed run line) ≤ mostForByte * weight line
+unfolding printed
+printed-length run line k h =
+    printed-for (run .accepted + run .refused + 1) (mostForByte * weight line) _ (lineTaken (run .own) (run .holding) line) h (omega arith)
+    (line-length (run .own) (k .table) (run .holding) (k .holding) line)
+
+from-length : (run : Run) (lines : List (List ℕ)) → RunKept run → run .accepted + run .refused + length lines ≤ longestBook
+    → length (listFrom run lines) ≤ mostForByte * sumBy weight lines + mostForEnd
+unfolding listFrom sumBy
+from-length run [] k h = omega (arith, end-few 4 4 (run .accepted) (run .refused) (omega arith) (omega arith))
+from-length run (line ∷ lines) k h =
+    let counts = next-counts run line in
+    let first = printed-length run line k (omega arith) in
+    let rest = from-length (next run line) lines (next-kept run line k) (omega arith) in
+    simp length-append (omega arith)
+
+-- a book has as many bytes as its lines and their ends, but that the last may lack its end
+lines-weigh : (book : List ℕ) → sumBy weight (linesOf book) ≤ length book + 1
+unfolding linesOf extend sumBy
+lines-weigh [] = omega arith
+lines-weigh (b ∷ bs) = go (eqb b 10) (linesOf bs) (lines-weigh bs)
+  where
+    go : (x : Bool) (lines : List (List ℕ)) → sumBy weight lines ≤ length bs + 1 → sumBy weight (cond x ([] ∷ lines) (extend b lines)) ≤ suc (length bs) + 1
+    go true lines h = omega arith
+    go false [] h = omega arith
+    go false (f ∷ fs) h = omega arith
+
+lines-few : (book : List ℕ) → length (linesOf book) ≤ length book
+unfolding linesOf extend
+lines-few [] = omega arith
+lines-few (b ∷ bs) = go (eqb b 10) (linesOf bs) (lines-few bs)
+  where
+    go : (x : Bool) (lines : List (List ℕ)) → length lines ≤ length bs → length (cond x ([] ∷ lines) (extend b lines)) ≤ suc (length bs)
+    go true lines h = omega arith
+    go false [] h = omega arith
+    go false (f ∷ fs) h = omega arith
+
+pub listing-length : (book : List ℕ) → length book ≤ longestBook → length (listingOf book) ≤ mostForByte * (length book + 1) + mostForEnd
+listing-length book h =
+    let few = lines-few book in
+    omega (
+      arith,
+      ap length (listing-lines book h),
+      from-length start (linesOf book) start-kept (omega (arith, start-none)),
+      lines-weigh book,
+    )
+
+over-length : length (refusalText 0 Form ++ endText 0 1) ≤ 25
+over-length =
+    omega (
+      arith,
+      length-append (refusalText 0 Form) (endText 0 1),
+      refusal-few 4 0 Form (omega arith),
+      end-few 4 4 0 1 (omega arith) (omega arith),
+    )
+
+-- there is room for the listing of any book
+pub listing-at-most : (book : List ℕ) → length (listingOf book) ≤ roomForAny
+listing-at-most book =
+    ⊎-elim
+    (λ over. omega (arith, ap length (listing-over book over), over-length))
+    (λ within. omega (arith, listing-length book within))
+    (below-or-not longestBook (length book))

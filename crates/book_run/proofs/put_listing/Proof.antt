@@ -1,0 +1,38 @@
+-- `book_run::put_listing` meets its contract, by the length of the book.
+use mathlib.Core.Path.{_∙_}
+use Rattle.text.proofs.Writes.{wrote-then, wrote-as, wrote-length}
+use Rattle.book_listing.proofs.Folding.{listing-over, listing-lines}
+use borrow.Author.Needs.{needs}
+use Rattle.book_run.proofs.put_listing.Statement.{statement}
+use Rattle.book_run.proofs.put_listing.Tie as tie
+
+same-length : tie.Need-same-length
+same-length c =
+    let end = c .before .before in
+    wrote-length (end .put-end .ensures .wrote) ∙ wrote-length (end .before .before .before .before .put-refusal .ensures .wrote)
+
+returns : tie.Need-returns
+returns c =
+    let end = c .before .before in
+    let refusal = end .before .before .before .before in
+    wrote-as (listing-over _ (refusal .before .before .if1 .taken)) (wrote-then (refusal .put-refusal .ensures .wrote) (end .put-end .ensures .wrote))
+
+same-length-2 : tie.Need-same-length-2
+same-length-2 c = wrote-length (c .before .before .put-lines .ensures)
+
+returns-2 : tie.Need-returns-2
+returns-2 c =
+    let lines = c .before .before in
+    wrote-as (listing-lines _ (lines .before .before .if1 .left)) (lines .put-lines .ensures)
+
+pub put-listing-spec : {M : Type 1} → statement M
+put-listing-spec =
+    tie.close
+    (tie.spec
+    (λ c κs. search needs)
+    (λ c κs. search needs)
+    same-length
+    returns
+    (λ c κs. search needs)
+    same-length-2
+    returns-2)

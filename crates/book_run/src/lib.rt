@@ -1,0 +1,94 @@
+// Runs a book line by line, on one holding and one table, and puts its listing.
+ghost use mathlib.Core.Path.{_≡_};
+ghost use Prim.Native.Nat.{_≤_};
+ghost use lib.ListN.{length, take};
+ghost use Rattle.table.specs.Participant.{longestTable};
+ghost use Rattle.text.specs.Writing.{Wrote};
+ghost use Rattle.book_listing.specs.Lines.{linesOf};
+ghost use Rattle.book_listing.specs.Listing.{start, listFrom, listingOf};
+ghost use Rattle.book_run.specs.Tables.{tableBy, Fronts};
+use holding::Found;
+use holding_look::Looked;
+use refusals::Refusal;
+
+// The longest book, in bytes.
+const LONGEST: usize = 65536;
+
+// Grows the table where a T line was accepted; the answer is its length. `book_take::take` has grown it once to judge the line: at most ten
+// lines of a book are accepted T lines, and so no turn has a table to carry.
+fn extend(table: &mut [u16; 1020], count: usize, areas: usize, line: &[u8], column: Found) -> usize
+    requires { ⌜ (count ≤ longestTable) × (length (now table) ≡ longestTable) ⌝ }
+    ensures { λ r. ⌜ Fronts (now (table .exit)) r (tableBy (take count (now (table .entry))) areas (now (line .entry)) column) ⌝ }
+{
+    match column {
+        Found::At(k) => {
+            let own = &table[..];
+            let grown = table_grow::grow(&own[0..count], areas, line, k);
+            let numbers = grown.numbers;
+            *table = numbers;
+            grown.count
+        }
+        Found::Nowhere => count,
+    }
+}
+
+// Puts the listing of a book that is not too long; the answer, here and below, is the place after what was put.
+fn put_lines(book: &[u8], out: &mut [u8]) -> usize
+    requires { ⌜ length (now book) ≤ 65536 ⌝ }
+    ensures { λ r. ⌜ Wrote (now (out .entry)) 0 (listFrom start (linesOf (now (book .entry)))) (now (out .exit)) r ⌝ }
+{
+    let default = schedules::schedule_six();
+    let mut holding = holding::empty_holding();
+    let mut table = [0u16; 1020];
+    let mut count: usize = 0;
+    let mut accepted: u64 = 0;
+    let mut refused: u64 = 0;
+    let mut at: usize = 0;
+    let mut i: usize = 0;
+    while i < book.len() {
+        let end = book_listing::end_of(book, i);
+        let parsed = line::parse(&book[i..end]);
+        let found = book_take::find(holding, parsed);
+        let mut named = holding::empty_area();
+        if let Found::At(k) = found {
+            if k < 16 {
+                named = holding.areas[k];
+            }
+        }
+        let looked = Looked {
+            count: holding.count,
+            found,
+            area: named,
+        };
+        let turn = book_take::take(&table[0..count], &default, looked, &book[i..end], parsed);
+        let column = turn.column;
+        count = extend(&mut table, count, holding.count, &book[i..end], column);
+        let outcome = turn.outcome;
+        at = book_listing::put_line(out, at, accepted + refused + 1, outcome);
+        let verdict = outcome.verdict;
+        let taken = book_listing::counted(verdict);
+        accepted += taken;
+        refused += 1 - taken;
+        let place = outcome.place;
+        if let Found::At(k) = place {
+            let area = outcome.area;
+            if k < 16 {
+                holding.areas[k] = area;
+            }
+            holding.count = outcome.count;
+        }
+        i = end + 1;
+    }
+    book_print::put_end(out, at, accepted, refused)
+}
+
+// Puts the listing of any book.
+pub fn put_listing(book: &[u8], out: &mut [u8]) -> usize
+    ensures { λ r. ⌜ Wrote (now (out .entry)) 0 (listingOf (now (book .entry))) (now (out .exit)) r ⌝ }
+{
+    if LONGEST < book.len() {
+        let next = book_print::put_refusal(out, 0, 0, Refusal::Form);
+        return book_print::put_end(out, next, 0, 1);
+    }
+    put_lines(book, out)
+}

@@ -1,0 +1,237 @@
+-- A book run line by line through the call gives the listing of `book`: after every line the program keeps the bytes of the holding and of the
+-- table that the listing carries, so every call is asked what `book` asks itself, and answers and prints the same.
+use Prim.Native.Nat.{ℕ, suc, _+_, _≤_}
+use mathlib.Core.Path.{_≡_, refl, sym, ap, subst, _∙_}
+use mathlib.Core.Bool.{Bool, true, false, cond}
+use mathlib.Core.List.{List, [], _∷_, _++_}
+use native.Mathlib.Omega.{arith}
+use lib.IntN.{ℤ, pos, negsuc}
+use lib.ListN.{length, take, drop, length-append, length-drop}
+use lib.Seq.{take-append-seam}
+use Rattle.refusals.specs.declared.Refusal.{Refusal}
+use Rattle.refusals.specs.declared.Verdict.{Verdict}
+use Rattle.refusals.specs.declared.Verdict.the-variants.{Clear as Accepted, Turned as Refused}
+use Rattle.refusals.specs.Refusals.{numberOf}
+use Rattle.table.specs.Participant.{isTable}
+use Rattle.line_entry.specs.declared.Entry.{Entry}
+use Rattle.line_entry.specs.declared.Parsed.{Parsed}
+use Rattle.line_entry.specs.declared.Parsed.the-variants.{Taken, Turned}
+use Rattle.line.specs.Lines.{entryOf}
+use Rattle.holding.specs.declared.Holding.{Holding}
+use Rattle.holding.specs.declared.Found.{Found}
+use Rattle.holding.specs.declared.Found.the-variants.{At, Nowhere}
+use Rattle.holding_look.specs.Standing.{known}
+use Rattle.step_outcome.specs.declared.Outcome.{Outcome}
+use Rattle.step_outcome.specs.Outcomes.{placed}
+use Rattle.statement_format.specs.Format.{statementOf}
+use Rattle.table_grow.specs.Growing.{growable, longerBy}
+use Rattle.table_grow.specs.Sorts.{columnOf}
+use Rattle.book_print.specs.Printing.{reportText, refusalText, pairText}
+use Rattle.book_listing.specs.Listing.{entryTaken, parsedTaken, lineTaken, parsedTable, tableAfter, Run, next, printedFor, printed, listFrom, start}
+use Rattle.theorem_keeping.specs.Kept.{Kept}
+use Rattle.theorem_keeping.proofs.Keeping.{empty-kept}
+use Rattle.call_output.specs.Outputs.{tableBytes}
+use Rattle.call_line.specs.Call.{stateBytes, foundBytes, entryBytes, parsedBytes, callVerdict, callBytes, callAnswer, callOutput}
+use Rattle.call_line.proofs.Sorts.{column-taken, step-taken, accepted-column}
+use Rattle.call_book.specs.Calls.{Caller, begin, statementIn, reportIn, taken, answered, afterCall, shown, shownAfter, callsFrom}
+use Rattle.call_book.proofs.Split.{statement-split, report-split}
+use Rattle.call_book.proofs.ColumnLines.{column-line}
+use Rattle.call_book.proofs.Tables.{longer-table}
+use Rattle.call_book.proofs.Taken.{line-leaves, step-kept}
+use Rattle.call_book.proofs.Answers.{refused-call, accepted-call, own-verdict, minus-number}
+
+-- the program keeps what the listing carries, as bytes
+record Follows (most : ℕ) (caller : Caller) (run : Run) : Type 0 where
+  statement : caller .statement ≡ statementOf (run .holding)
+  table : caller .table ≡ tableBytes (run .own)
+  room : most ≤ length (caller .out)
+  accepted : caller .accepted ≡ run .accepted
+  refused : caller .refused ≡ run .refused
+  kept : Kept (run .holding)
+  isOwn : isTable (run .own) ≡ true
+
+record Matches (most : ℕ) (caller : Caller) (run : Run) (line : List ℕ) : Type 0 where
+  follows : Follows most (afterCall caller line) (next run line)
+  prints : shownAfter caller line ≡ printed run line
+
+follows-as : {most : ℕ} {c d : Caller} {r s : Run} → c ≡ d → r ≡ s → Follows most d s → Follows most c r
+follows-as {most} {c} {d} {r} {s} p q f = subst (λ (x : Caller). Follows most x r) (sym p) (subst (λ (x : Run). Follows most d x) (sym q) f)
+
+module _ (most : ℕ) (caller : Caller) (run : Run) (f : Follows most caller run) (line : List ℕ) where
+  abbrev own : List ℕ
+  own = run .own
+
+  abbrev holding : Holding
+  holding = run .holding
+
+  abbrev outcome : Outcome
+  outcome = lineTaken own holding line
+
+  -- how many bytes the call needs
+  abbrev needed : ℕ
+  needed = length (callBytes (caller .statement) (caller .table) line)
+
+  -- what a call comes to, by its answer and its output
+  by-answer : (out : List ℕ) (answer : ℤ) → callOutput (caller .statement) (caller .table) line (caller .out) ≡ out
+      → callAnswer (caller .statement) (caller .table) line (length (caller .out)) ≡ answer
+      → (afterCall caller line ≡ answered caller line out answer) × (shownAfter caller line ≡ shown caller line out answer)
+  unfolding afterCall shownAfter
+  by-answer out answer p q = (rw (p, q), rw (p, q))
+
+  -- what the listing comes to, by the verdict
+  next-refused : (r : Refusal) → outcome .verdict ≡ Refused r → placed holding outcome ≡ holding
+      → next run line ≡ record { own = own; holding = holding; accepted = run .accepted; refused = run .refused + 1 }
+  unfolding next tableAfter placed
+  next-refused r e leaves = rw (e, leaves)
+
+  next-accepted : (more : List ℕ) (after : Holding) → outcome .verdict ≡ Accepted → parsedTable own line (entryOf line) ≡ more → placed holding outcome ≡ after
+      → next run line ≡ record { own = more; holding = after; accepted = run .accepted + 1; refused = run .refused }
+  unfolding next tableAfter placed
+  next-accepted more after e p q = rw (e, p, q)
+
+  printed-refused : (r : Refusal) → outcome .verdict ≡ Refused r → printed run line ≡ pairText 88 (run .accepted + run .refused + 1) (numberOf r)
+  unfolding printed printedFor refusalText
+  printed-refused r e = rw e
+
+  printed-accepted : outcome .verdict ≡ Accepted → printed run line ≡ reportText (outcome .report)
+  unfolding printed printedFor
+  printed-accepted e = rw e
+
+  refused-matches : (r : Refusal) → outcome .verdict ≡ Refused r → Matches most caller run line
+  unfolding lineTaken
+  refused-matches r e =
+      let call = refused-call own holding (f .kept) (f .isOwn) (caller .statement) (caller .table) line (caller .out) (f .statement) (f .table) r e in
+      let minus = minus-number r in
+      let after = by-answer (caller .out) (negsuc (minus .0)) (call .1) (call .0 ∙ minus .1) in
+      let leaves = line-leaves own holding (f .isOwn) line (entryOf line) r e in
+      let number : caller .accepted + caller .refused + 1 ≡ run .accepted + run .refused + 1 = omega (arith, f .accepted, f .refused) in
+      record {
+        follows = follows-as (after .0) (next-refused r e leaves) (record {
+          statement = f .statement;
+          table = f .table;
+          room = f .room;
+          accepted = f .accepted;
+          refused = ap (λ (n : ℕ). n + 1) (f .refused);
+          kept = f .kept;
+          isOwn = f .isOwn;
+        });
+        prints =
+            after .1 ∙ ap (λ (n : ℕ). pairText 88 n (suc (minus .0))) number
+            ∙ ap (pairText 88 (run .accepted + run .refused + 1)) (minus .2) ∙ sym (printed-refused r e);
+      }
+
+  -- an accepted call: its output stands in front, and all of it is taken
+  module _ (clear : outcome .verdict ≡ Accepted) (enough : needed ≤ most) (entry : Entry) (read : entryOf line ≡ Taken entry) where
+    abbrev written : List ℕ
+    written = entryBytes own holding line entry
+
+    abbrev out : List ℕ
+    out = written ++ drop (length written) (caller .out)
+
+    accepted-after : (t : Bool) → known (columnOf entry) ≡ t
+        → (afterCall caller line ≡ taken caller t out written) × (shownAfter caller line ≡ cond t [] (reportIn written))
+    accepted-after t e =
+        let room : needed ≤ length (caller .out) = omega (arith, enough, f .room) in
+        let call = accepted-call own holding (f .kept) (f .isOwn) (caller .statement) (caller .table) line (caller .out) (f .statement) (f .table) clear room in
+        let whole = ap (λ (p : Parsed). parsedBytes own holding line p) read in
+        let left = call .1 ∙ ap (λ (b : List ℕ). b ++ drop (length b) (caller .out)) whole in
+        let after = by-answer out (pos (length written)) left (call .0 ∙ ap (λ (b : List ℕ). pos (length b)) whole) in
+        let column = sym (column-line line entry read) ∙ e in
+        let front = take-append-seam written (drop (length written) (caller .out)) in (
+          after .0 ∙ ap (λ (b : Bool). taken caller b out (take (length written) out)) column ∙ ap (taken caller t out) front,
+          after .1 ∙ ap (λ (b : Bool). cond b [] (reportIn (take (length written) out))) column ∙ ap (λ (l : List ℕ). cond t [] (reportIn l)) front,
+        )
+
+    enough-room : most ≤ length out
+    enough-room = omega (arith, f .room, length-append written (drop (length written) (caller .out)), length-drop (length written) (caller .out))
+
+    by-entry : outcome ≡ entryTaken own holding line entry
+    unfolding lineTaken parsedTaken
+    by-entry = rw read
+
+    column-bytes : (column : ℕ) → columnOf entry ≡ At column → written ≡ tableBytes (longerBy own line column)
+    unfolding entryBytes
+    column-bytes column c = ap (foundBytes own holding line entry) c
+
+    step-bytes : columnOf entry ≡ Nowhere → written ≡ stateBytes holding outcome
+    unfolding entryBytes
+    step-bytes c = ap (foundBytes own holding line entry) c ∙ ap (stateBytes holding) (sym by-entry)
+
+    column-matches : (column : ℕ) → columnOf entry ≡ At column → Matches most caller run line
+    unfolding placed reportText
+    column-matches column c =
+        let after = accepted-after true (ap known c) in
+        let taken-as = column-taken own holding line entry column c in
+        let same = by-entry ∙ taken-as .0 in
+        let grown = accepted-column (growable own (holding .count) line column) holding (ap (λ (o : Outcome). o .verdict) (sym same) ∙ clear) in
+        let more = ap (parsedTable own line) read ∙ taken-as .1 in
+        record {
+          follows = follows-as (after .0) (next-accepted (longerBy own line column) holding clear more (ap (placed holding) (same ∙ grown .1))) (record {
+            statement = f .statement;
+            table = column-bytes column c;
+            room = enough-room;
+            accepted = ap (λ (n : ℕ). n + 1) (f .accepted);
+            refused = f .refused;
+            kept = f .kept;
+            isOwn = longer-table own (holding .count) line column (grown .0);
+          });
+          prints = after .1 ∙ sym (printed-accepted clear ∙ ap (λ (o : Outcome). reportText (o .report)) (same ∙ grown .1));
+        }
+
+    step-matches : columnOf entry ≡ Nowhere → Matches most caller run line
+    step-matches c =
+        let after = accepted-after false (ap known c) in
+        let whole = step-bytes c in
+        let same = ap (parsedTable own line) read ∙ step-taken own holding line entry c .1 in
+        record {
+          follows = follows-as (after .0) (next-accepted own (placed holding outcome) clear same refl) (record {
+            statement = ap statementIn whole ∙ statement-split (placed holding outcome) (outcome .report);
+            table = f .table;
+            room = enough-room;
+            accepted = ap (λ (n : ℕ). n + 1) (f .accepted);
+            refused = f .refused;
+            kept = subst (λ (o : Outcome). Kept (placed holding o)) (sym by-entry) (step-kept own holding (f .isOwn) line (f .kept) entry c);
+            isOwn = f .isOwn;
+          });
+          prints = after .1 ∙ ap reportIn whole ∙ report-split (placed holding outcome) (outcome .report) ∙ sym (printed-accepted clear);
+        }
+
+  line-matches : (callVerdict (caller .statement) (caller .table) line ≡ Accepted → needed ≤ most) → Matches most caller run line
+  unfolding lineTaken parsedTaken
+  line-matches enough = by-verdict (outcome .verdict) refl
+    where
+      by-parse : (p : Parsed) → entryOf line ≡ p → outcome .verdict ≡ Accepted → needed ≤ most → Matches most caller run line
+      by-parse (Turned r) e clear h =
+          let turned = ap (λ (p : Parsed). parsedTaken own holding line p .verdict) e in
+          let z : _≡_ {A = ℕ} 0 1 = cc in
+          absurd (omega arith)
+      by-parse (Taken entry) e clear h = by-column (columnOf entry) refl
+        where
+          by-column : (found : Found) → columnOf entry ≡ found → Matches most caller run line
+          by-column (At column) c = column-matches clear h entry e column c
+          by-column Nowhere c = step-matches clear h entry e c
+
+      by-verdict : (v : Verdict) → outcome .verdict ≡ v → Matches most caller run line
+      by-verdict (Refused r) e = refused-matches r e
+      by-verdict Accepted e =
+          let same = own-verdict own holding (f .kept) (f .isOwn) (caller .statement) (caller .table) line (caller .out) (f .statement) (f .table) in
+          by-parse (entryOf line) refl e (enough (same ∙ e))
+
+-- the bytes that a call needs are at most so many
+abbrev pub Enough : ℕ → Type 0
+Enough most = (statement table line : List ℕ) → callVerdict statement table line ≡ Accepted → length (callBytes statement table line) ≤ most
+
+calls-follow : (most : ℕ) → Enough most → (lines : List (List ℕ)) (caller : Caller) (run : Run) → Follows most caller run
+    → callsFrom caller lines ≡ listFrom run lines
+unfolding callsFrom listFrom
+calls-follow most enough [] caller run f = rw (f .accepted, f .refused)
+calls-follow most enough (line ∷ lines) caller run f =
+    let m = line-matches most caller run f line (enough (caller .statement) (caller .table) line) in
+    ap (λ (t : List ℕ). t ++ callsFrom (afterCall caller line) lines) (m .prints)
+    ∙ ap (λ (t : List ℕ). printed run line ++ t) (calls-follow most enough lines (afterCall caller line) (next run line) (m .follows))
+
+pub calls-list-within : (most : ℕ) → Enough most → (out : List ℕ) → most ≤ length out → (lines : List (List ℕ)) → callsFrom (begin out) lines ≡ listFrom start lines
+unfolding begin start tableBytes isTable
+calls-list-within most enough out room lines =
+    calls-follow most enough lines (begin out) start
+    (record { statement = refl; table = refl; room = room; accepted = refl; refused = refl; kept = empty-kept; isOwn = refl })

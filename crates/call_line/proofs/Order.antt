@@ -1,0 +1,155 @@
+-- The order of a call's parts. A line is refused by a number up to 6 and a table by 6; a statement is refused by 11, and an entry that was read, on any
+-- holding and table, by no number below 6. So a refused line decides, then a refused table, and only the statement and the state are weighed together.
+use Prim.Native.Nat.{ℕ, _/_, _%_, _≤_}
+use mathlib.Core.Path.{_≡_, refl}
+use mathlib.Core.Bool.{Bool, true, false, not, cond}
+use mathlib.Core.List.{List}
+use native.Mathlib.Omega.{arith}
+use lib.Dec.{eqb, leb, ltb, lit≤}
+use lib.ListN.{length}
+use Rattle.text.specs.Fields.{split}
+use Rattle.refusals.specs.declared.Refusal.{Refusal}
+use Rattle.refusals.specs.declared.Refusal.the-variants.{TableColumn, TableAfterArea, OutputShort}
+use Rattle.refusals.specs.declared.Verdict.{Verdict}
+use Rattle.refusals.specs.declared.Verdict.the-variants.{Clear as Accepted, Turned as Refused}
+use Rattle.refusals.specs.Refusals.{numberOf, weighed, weighAll, smallest}
+use Rattle.table.specs.Participant.{longestTable, isTable}
+use Rattle.table_bytes.specs.Bytes.{numbersOf, decodable}
+use Rattle.line_entry.specs.declared.Entry.{Entry}
+use Rattle.line_entry.specs.declared.Entry.the-variants.{Open, Add, Clear, Plant, File, Withdraw, Column}
+use Rattle.line_entry.specs.declared.Parsed.the-variants.{Taken, Turned}
+use Rattle.line_entry.specs.Rules.{Rule, parsed, areaAndYear, openRule, addRule, clearRule, plantRule, fileRule, withdrawRule}
+use Rattle.line_column.specs.Columns.{columnRule}
+use Rattle.line.specs.Lines.{bodyOf, letterOf, noRule, ruleOf, lineRule, conditions, entryOf}
+use Rattle.holding.specs.declared.Holding.{Holding}
+use Rattle.step_outcome.specs.Outcomes.{areaCases}
+use Rattle.step_open.specs.Opening.{openCases, opened}
+use Rattle.step_add.specs.Adding.{addCases, added}
+use Rattle.step_clear.specs.Clearing.{clearCases, cleared}
+use Rattle.step_plant.specs.Planting.{plantCases, planted}
+use Rattle.step_file.specs.Filing.{fileCases, filed}
+use Rattle.step_withdraw.specs.Withdrawing.{withdrawCases, withdrawn}
+use Rattle.step.specs.Steps.{applied}
+use Rattle.table_extend.specs.Extension.{begun, extensible}
+use Rattle.table_grow.specs.Growing.{lineCells, growable}
+use Rattle.statement.specs.Statement.{acceptable, readIf, readOf}
+use Rattle.statement_parse.specs.Reading.{holdingAt}
+use Rattle.book_listing.specs.Listing.{entryTaken, parsedTaken, lineTaken}
+use Rattle.call_line.specs.Call.{tableVerdict, smaller, callVerdict, entryBytes, callBytes}
+use Rattle.call_line.proofs.Smaller.{From, from-less, smaller-first, smaller-from}
+use Rattle.call_line.proofs.Sorts.{columnOutcome}
+use Rattle.call_line.proofs.Ranged.{Ranged, entry-ranged}
+use Rattle.call_line.proofs.Tables.{startsAt, starts-from, weighed-from, answered-from, answered-verdict, endsAt, ends-by}
+
+-- ---- the line: at most 6
+
+either : (t : Bool) (x y : Rule) → endsAt 6 (x .cases) ≡ true → endsAt 6 (y .cases) ≡ true → endsAt 6 (cond t x y .cases) ≡ true
+either true x y p q = p
+either false x y p q = q
+
+rules-end : (letter : ℕ) (fs : List (List ℕ)) → endsAt 6 (ruleOf letter fs .cases) ≡ true
+unfolding ruleOf noRule columnRule areaAndYear openRule addRule clearRule plantRule fileRule withdrawRule endsAt
+rules-end letter fs =
+    either (eqb letter 84) _ _ refl (either (eqb letter 65) _ _ refl (either (eqb letter 83) _ _ refl (either (eqb letter 67) _ _ refl
+    (either (eqb letter 80) _ _ refl (either (eqb letter 82) _ _ refl (either (eqb letter 87) _ _ refl refl))))))
+
+turned-by : (v : Verdict) (entry : Entry) (r : Refusal) → parsed v entry ≡ Turned r → v ≡ Refused r
+unfolding parsed
+turned-by Accepted entry r e = let z : _≡_ {A = ℕ} 0 1 = cc in absurd (omega arith)
+turned-by (Refused s) entry r e = cc
+
+pub line-six : (line : List ℕ) (r : Refusal) → entryOf line ≡ Turned r → numberOf r ≤ 6
+unfolding entryOf conditions lineRule endsAt
+line-six line r e =
+    let body = bodyOf line in
+    ends-by 6 (conditions body) r (rules-end (letterOf body) (split body)) (turned-by (smallest (conditions body)) _ r e)
+
+-- ---- the table: 6
+
+pub table-six : (table : List ℕ) (r : Refusal) → tableVerdict table ≡ Refused r → r ≡ TableColumn
+unfolding tableVerdict decodable smallest weighAll weighed
+table-six table r e = go (not (eqb (length table % 2) 0)) (ltb longestTable (length table / 2)) (not (isTable (numbersOf table))) e
+  where
+    go : (odd long unkept : Bool)
+        → weighed (weighed (weighed (weighed Accepted odd TableColumn) long TableColumn) long OutputShort) unkept TableColumn ≡ Refused r
+        → r ≡ TableColumn
+    go true long unkept e = cc
+    go false true unkept e = cc
+    go false false true e = cc
+    go false false false e = let z : _≡_ {A = ℕ} 0 1 = cc in absurd (omega arith)
+
+table-from-six : (table : List ℕ) → From 6 (tableVerdict table)
+unfolding tableVerdict decodable startsAt
+table-from-six table =
+    weighed-from 6 (decodable table longestTable) (not (isTable (numbersOf table))) TableColumn (starts-from 6 _ refl) (omega arith)
+
+-- ---- the statement: 11
+
+read-by : (v : Verdict) (holding : Holding) → readIf v holding .verdict ≡ v
+read-by Accepted holding = refl
+read-by (Refused r) holding = refl
+
+read-from-six : (statement : List ℕ) → From 6 (readOf statement .verdict)
+unfolding readOf acceptable startsAt
+read-from-six statement =
+    rw (read-by (acceptable statement (holdingAt statement)) (holdingAt statement .holding)) (starts-from 6 _ refl)
+
+-- ---- the state: an entry that was read
+
+growable-from-six : (own : List ℕ) (areas : ℕ) (line : List ℕ) (column : ℕ) → From 6 (growable own areas line column)
+unfolding growable extensible startsAt
+growable-from-six own areas line column =
+    weighed-from 6 (extensible (begun own) column (lineCells line) longestTable) (leb 1 areas) TableAfterArea (starts-from 6 _ refl) (lit≤ tt)
+
+module _ (own : List ℕ) (holding : Holding) (line : List ℕ) where
+  entry-from-six : (entry : Entry) → Ranged entry → From 6 (entryTaken own holding line entry .verdict)
+  unfolding entryTaken applied opened openCases added addCases cleared clearCases planted plantCases filed fileCases withdrawn withdrawCases areaCases startsAt
+  entry-from-six (Open area opening) r = answered-from 6 _ _ refl (rw (r .0, r .1))
+  entry-from-six (Add area sub land forest year) r = answered-from 6 _ _ refl (rw (r .0, r .1, r .2, r .3))
+  entry-from-six (Clear area sub year) r = answered-from 6 _ _ refl (rw (r .0, r .1, r .2))
+  entry-from-six (Plant area sub forest year) r = answered-from 6 _ _ refl (rw (r .0, r .1, r .2, r .3))
+  entry-from-six (File area last) r = answered-from 6 _ _ refl (rw (r .0, r .1))
+  entry-from-six (Withdraw area) r = answered-from 6 _ _ refl (rw r)
+  entry-from-six (Column column cells) r =
+      rw (answered-verdict (growable own (holding .count) line column) (columnOutcome holding) refl) (growable-from-six own (holding .count) line column)
+
+-- ---- the call
+
+first-of-four : (r : Refusal) (table statement : Verdict) → From (numberOf r) table → From (numberOf r) statement
+    → smaller (Refused r) (smaller table (smaller statement (Refused r))) ≡ Refused r
+first-of-four r table statement p q =
+    let n = numberOf r in
+    smaller-first r (smaller table (smaller statement (Refused r)))
+    (smaller-from n table (smaller statement (Refused r)) p (smaller-from n statement (Refused r) q (omega arith)))
+
+module _ (statement table line : List ℕ) where
+  pub line-decides : (r : Refusal) → entryOf line ≡ Turned r → callVerdict statement table line ≡ Refused r
+  unfolding callVerdict lineTaken parsedTaken
+  line-decides r e =
+      let n = numberOf r in
+      let few = line-six line r e in
+      rw e
+      (first-of-four r (tableVerdict table) (readOf statement .verdict)
+      (from-less n 6 (tableVerdict table) few (table-from-six table))
+      (from-less n 6 (readOf statement .verdict) few (read-from-six statement)))
+
+  module _ (entry : Entry) (read : entryOf line ≡ Taken entry) where
+    pub table-decides : (r : Refusal) → tableVerdict table ≡ Refused r → callVerdict statement table line ≡ Refused r
+    unfolding callVerdict lineTaken parsedTaken
+    table-decides r e =
+        let six = table-six table r e in
+        let holding = readOf statement .holding in
+        let state = entryTaken (numbersOf table) holding line entry .verdict in
+        rw (read, e, six)
+        (smaller-first TableColumn (smaller (readOf statement .verdict) state)
+        (smaller-from 6 (readOf statement .verdict) state (read-from-six statement)
+        (entry-from-six (numbersOf table) holding line entry (entry-ranged line entry read))))
+
+    pub entry-decides : tableVerdict table ≡ Accepted
+        → callVerdict statement table line ≡ smaller (readOf statement .verdict) (entryTaken (numbersOf table) (readOf statement .holding) line entry .verdict)
+    unfolding callVerdict lineTaken parsedTaken
+    entry-decides e = rw (read, e)
+
+    pub entry-writes : callBytes statement table line ≡ entryBytes (numbersOf table) (readOf statement .holding) line entry
+    unfolding callBytes
+    entry-writes = rw read

@@ -1,8 +1,0 @@
--- `entries::number_at` meets its contract, by those of its calls.
-use borrow.Author.Needs.{needs}
-use Rattle.entries.proofs.number_at.Statement.{statement}
-use Rattle.entries.proofs.number_at.Tie as tie
-
-pub number-at-spec : {M : Type 1} → statement M
-number-at-spec =
-    tie.close (tie.spec (λ c κs. search needs) (λ c κs. search needs) (λ c. simp (c .read .ensures, c .before .field .ensures)))

@@ -1,0 +1,91 @@
+// What stands at a place that a search found, an area looked up by its number, and an area with a sub-area put back.
+ghost use mathlib.Core.Path.{_≡_};
+ghost use Prim.Native.Nat.{_<_};
+ghost use Rattle.holding.specs.declared.Found.the-variants.{At};
+ghost use Rattle.holding_look.specs.Standing.{known, areaAt, lookedUp, subAt, withSub};
+use holding::Area;
+use holding::Found;
+use holding::Holding;
+use holding::Sub;
+
+pub fn is_known(found: Found) -> bool
+    ensures { λ r. ⌜ r ≡ known found ⌝ }
+{
+    match found {
+        Found::At(_) => true,
+        Found::Nowhere => false,
+    }
+}
+
+// The area at a place: the holding is copied only where there is one.
+fn area_in(holding: Holding, i: usize) -> Area
+    requires { ⌜ i < 16 ⌝ }
+    ensures { λ r. ⌜ r ≡ areaAt holding (At i) ⌝ }
+{
+    holding.areas[i]
+}
+
+// The area there, the empty one where none stands.
+fn area_at(holding: Holding, found: Found) -> Area
+    ensures { λ r. ⌜ r ≡ areaAt holding found ⌝ }
+{
+    match found {
+        Found::At(i) => {
+            if i < 16 {
+                return area_in(holding, i);
+            }
+            holding::empty_area()
+        }
+        Found::Nowhere => holding::empty_area(),
+    }
+}
+
+// An area looked up: how many areas stand, where it was found, and the area, the empty one where there is none.
+pub struct Looked {
+    pub count: usize,
+    pub found: Found,
+    pub area: Area,
+}
+
+pub fn look_up(holding: Holding, number: u16) -> Looked
+    ensures { λ r. ⌜ r ≡ lookedUp holding number ⌝ }
+{
+    let found = holding::find_area(holding, number);
+    let area = area_at(holding, found);
+    Looked {
+        count: holding.count,
+        found,
+        area,
+    }
+}
+
+pub fn sub_at(area: Area, found: Found) -> Sub
+    ensures { λ r. ⌜ r ≡ subAt area found ⌝ }
+{
+    match found {
+        Found::At(i) => {
+            if i < 16 {
+                return area.subs[i];
+            }
+            holding::empty_sub()
+        }
+        Found::Nowhere => holding::empty_sub(),
+    }
+}
+
+// The area with a sub-area put back at its place, after a clearing or planting in a year.
+pub fn with_sub(area: Area, found: Found, sub: Sub, year: u16) -> Area
+    ensures { λ r. ⌜ r ≡ withSub area found sub year ⌝ }
+{
+    let mut after = area;
+    after.latest = year;
+    match found {
+        Found::At(i) => {
+            if i < 16 {
+                after.subs[i] = sub;
+            }
+            after
+        }
+        Found::Nowhere => after,
+    }
+}

@@ -1,0 +1,44 @@
+-- `land_deforestation::calculate` meets its contract, by the verdict.
+use Prim.Native.Nat.{ℕ}
+use mathlib.Core.Path.{sym, ap, _∙_}
+use mathlib.Core.List.{List}
+use borrow.Author.Needs.{needs}
+use lib.ListN.{take}
+use Rattle.laws.specs.Elements.{sumBy}
+use Rattle.refusals.specs.declared.Verdict.{Verdict}
+use Rattle.units.specs.Tonnes.{tonnes}
+use Rattle.land_deforestation.specs.declared.Emissions.the-variants.{Tonnes}
+use Rattle.land_deforestation.specs.Emissions.{kilogramsOf, answerOf, emissionsOf}
+use Rattle.land_deforestation.proofs.calculate.Statement.{statement}
+use Rattle.land_deforestation.proofs.calculate.Tie as tie
+
+returns : tie.Need-returns
+unfolding answerOf emissionsOf
+returns c =
+    let j = c .before .before .before in
+    let a = j .before .args in
+    ap (λ (v : Verdict). answerOf v (take (a .count) (a .parcels))) (sym (c .before .verdict .given .1) ∙ j .judge .ensures)
+
+returns-2 : tie.Need-returns-2
+unfolding answerOf emissionsOf
+returns-2 c =
+    let s = c .before .before .before in
+    let j = s .before .before .before in
+    let a = j .before .args in
+    let ps = take (a .count) (a .parcels) in
+    let kg = c .before .total .ensures ∙ ap (λ (cells : List ℕ). sumBy (kilogramsOf cells) ps) (s .schedule-four .ensures) in
+    ap Tonnes (c .to-tonnes .ensures ∙ ap tonnes kg) ∙ ap (λ (v : Verdict). answerOf v ps) (sym (s .before .enum-told .given .1) ∙ j .judge .ensures)
+
+pub calculate-spec : {M : Type 1} → statement M
+calculate-spec =
+    tie.close
+    (tie.spec
+    (λ c κs. search needs)
+    (λ c. search needs)
+    returns
+    (λ c. search needs)
+    (λ c κs. search needs)
+    (λ c. search needs)
+    (λ c κs. search needs)
+    (λ c κs. search needs)
+    returns-2)

@@ -1,0 +1,29 @@
+-- "Predominant: the species of greatest total basal area, the lower number on a tie."
+use Prim.Native.Nat.{ℕ}
+use mathlib.Core.Bool.{Bool, cond}
+use mathlib.Core.List.{List, [], _∷_, foldl}
+use lib.Dec.{ltb}
+use Rattle.laws.specs.Elements.{outranks}
+use Rattle.forest.specs.declared.Forest.the-variants.{Bare}
+use Rattle.land_groups.specs.declared.Group.{Group}
+use Rattle.land_groups.specs.Sums.{speciesArea}
+
+-- whether a species with its total basal area comes before another with its own
+abbrev pub comesBefore : ℕ → ℕ → ℕ → ℕ → Bool
+comesBefore total species otherTotal other = outranks total otherTotal (ltb species other)
+
+-- whether a group's species comes before another's
+abbrev pub precedes : List Group → Group → Group → Bool
+precedes gs g h = comesBefore (speciesArea gs (g .species)) (g .species) (speciesArea gs (h .species)) (h .species)
+
+-- of two groups, the one whose species comes before the other's; the first where it is one species
+unfoldable pub leading : List Group → Group → Group → Group
+leading gs leader g = cond (precedes gs g leader) g leader
+
+abbrev pub noGroup : Group
+noGroup = record { species = 0; forest = Bare; age = 0; «basal_area» = 0 }
+
+-- a group of the predominant species
+unfoldable pub predominantOf : List Group → Group
+predominantOf [] = noGroup
+predominantOf (g ∷ gs) = foldl (leading (g ∷ gs)) g gs

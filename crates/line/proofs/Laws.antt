@@ -1,0 +1,110 @@
+-- The laws of a line: its body, the scan for an end, its letter, and what refuses it before its letter is looked at.
+use Prim.Native.Nat.{ℕ, _+_, _-_, _≤_, _<_}
+use mathlib.Core.Path.{_≡_, refl, sym, ap, _∙_}
+use mathlib.Core.Bool.{Bool, true, false}
+use mathlib.Core.List.{List, [], _∷_}
+use native.Mathlib.Omega.{arith}
+use native.Mathlib.Numerals.{add-one}
+use borrow.Author.Tests.{eq-eqb, ne-eqb, lt-ltb, le-ltb}
+use lib.ListN.{length, getD, take, drop, drop-of-length-le}
+use lib.Seq.{drop-cons, take-all}
+use Rattle.text.specs.Fields.{split}
+use Rattle.refusals.specs.declared.Refusal.the-variants.{Form}
+use Rattle.refusals.specs.declared.Verdict.{Verdict}
+use Rattle.refusals.specs.declared.Verdict.the-variants.{Turned as TurnedBy}
+use Rattle.refusals.specs.Refusals.{Case, _⇒_, weighed, weighAll, smallest}
+use Rattle.refusals.proofs.Smallest.{turned-stands}
+use Rattle.line_entry.specs.declared.Parsed.{Parsed}
+use Rattle.line_entry.specs.declared.Parsed.the-variants.{Turned}
+use Rattle.line_entry.specs.Rules.{parsed, parsedBy}
+use Rattle.line.specs.Lines.{bodyOf, holdsEnd, longest, letterOf, noRule, ruleOf, lineRule, conditions, entryOf}
+
+module _ (line : List ℕ) (n : ℕ) (e : n ≡ length line) where
+  pub body-open : (getD line (n - 1) 0 ≡ 10 → ⊥) → take (n - 0) (drop 0 line) ≡ bodyOf line
+  unfolding bodyOf
+  body-open h =
+      let q : n - 1 ≡ length line - 1 = omega arith in
+      take-all (n - 0) line (omega arith) ∙ simp (ne-eqb (getD line (length line - 1) 0) 10 (λ z. h (ap (λ (k : ℕ). getD line k 0) q ∙ z)))
+
+  pub body-ended : getD line (n - 1) 0 ≡ 10 → take (n - 1 - 0) (drop 0 line) ≡ bodyOf line
+  unfolding bodyOf
+  body-ended h =
+      let q : n - 1 - 0 ≡ length line - 1 = omega arith in
+      let r : n - 1 ≡ length line - 1 = omega arith in
+      ap (λ (k : ℕ). take k line) q ∙ simp (eq-eqb (getD line (length line - 1) 0) 10 (ap (λ (k : ℕ). getD line k 0) (sym r) ∙ h))
+
+pub body-empty : (line : List ℕ) (n : ℕ) → n ≡ length line → n ≡ 0 → take (n - 0) (drop 0 line) ≡ bodyOf line
+body-empty [] n e h = body-open [] n e (λ z. omega arith)
+body-empty (b ∷ line) n e h = absurd (omega arith)
+
+module _ (s : List ℕ) (i : ℕ) where
+  pub end-here : i < length s → getD s i 0 ≡ 10 → true ≡ holdsEnd (drop i s)
+  unfolding holdsEnd
+  end-here h e = rw (drop-cons s i 0 h) (simp (eq-eqb _ _ e))
+
+  pub end-later : i < length s → (getD s i 0 ≡ 10 → ⊥) → holdsEnd (drop (i + 1) s) ≡ holdsEnd (drop i s)
+  unfolding holdsEnd
+  end-later h ne = rw (add-one, drop-cons s i 0 h) (simp (ne-eqb _ _ ne))
+
+  pub end-none : length s ≤ i → false ≡ holdsEnd (drop i s)
+  unfolding holdsEnd
+  end-none h = rw (drop-of-length-le s h)
+
+pub letter-none : (s : List ℕ) → length s ≡ 0 → 0 ≡ letterOf s
+unfolding letterOf
+letter-none [] h = refl
+letter-none (b ∷ s) h = absurd (omega arith)
+
+pub letter-alone : (s : List ℕ) → length s ≡ 1 → getD s 0 0 ≡ letterOf s
+unfolding letterOf
+letter-alone [] h = absurd (omega arith)
+letter-alone (b ∷ []) h = refl
+letter-alone (b ∷ c ∷ s) h = absurd (omega arith)
+
+pub letter-parted : (s : List ℕ) → 1 < length s → getD s 1 0 ≡ 44 → getD s 0 0 ≡ letterOf s
+unfolding letterOf
+letter-parted [] h e = absurd (omega arith)
+letter-parted (b ∷ []) h e = absurd (omega arith)
+letter-parted (b ∷ c ∷ s) h e = simp (eq-eqb c 44 e)
+
+pub letter-longer : (s : List ℕ) → 1 < length s → (getD s 1 0 ≡ 44 → ⊥) → 0 ≡ letterOf s
+unfolding letterOf
+letter-longer [] h e = absurd (omega arith)
+letter-longer (b ∷ []) h e = absurd (omega arith)
+letter-longer (b ∷ c ∷ s) h e = simp (ne-eqb c 44 e)
+
+-- the rule of a letter that is known
+pub rule-known : (s : List ℕ) (l b : ℕ) (x : Parsed) → l ≡ letterOf s → l ≡ b → x ≡ parsedBy (ruleOf b (split s)) → x ≡ parsedBy (lineRule s)
+unfolding lineRule
+rule-known s l b x e k h = h ∙ ap (λ (n : ℕ). parsedBy (ruleOf n (split s))) (sym k ∙ e)
+
+-- a letter that has no rule
+pub rule-unknown : (s : List ℕ) (l : ℕ) → l ≡ letterOf s → ruleOf l (split s) ≡ noRule → Turned Form ≡ parsedBy (lineRule s)
+unfolding lineRule noRule parsed smallest weighAll weighed
+rule-unknown s l e q = sym (ap parsedBy (ap (λ (n : ℕ). ruleOf n (split s)) (sym e) ∙ q))
+
+-- a case that applies, where none before it does
+first-applies : (cs : List Case) (t : Bool) → t ≡ true → smallest (t ⇒ Form ∷ cs) ≡ TurnedBy Form
+unfolding smallest weighAll weighed
+first-applies cs t e = rw e (turned-stands Form cs)
+
+first-passed : (cs : List Case) (t : Bool) → t ≡ false → smallest (t ⇒ Form ∷ cs) ≡ smallest cs
+unfolding smallest weighAll weighed
+first-passed cs t e = rw e refl
+
+module _ (line s : List ℕ) (e : s ≡ bodyOf line) where
+  refused : smallest (conditions s) ≡ TurnedBy Form → Turned Form ≡ entryOf line
+  unfolding entryOf parsed
+  refused q = rw (sym e) (rw q refl)
+
+  pub too-long : longest < length s → Turned Form ≡ entryOf line
+  unfolding conditions
+  too-long h = refused (first-applies _ _ (lt-ltb longest (length s) h))
+
+  pub broken : length s ≤ longest → holdsEnd s ≡ true → Turned Form ≡ entryOf line
+  unfolding conditions
+  broken h q = refused (first-passed _ _ (le-ltb longest (length s) h) ∙ first-applies _ _ q)
+
+  pub whole : (x : Parsed) → length s ≤ longest → holdsEnd s ≡ false → x ≡ parsedBy (lineRule s) → x ≡ entryOf line
+  unfolding entryOf conditions
+  whole x h q r = r ∙ rw (sym e) (ap (λ (v : Verdict). parsed v (lineRule s .entry)) (sym (first-passed _ _ (le-ltb longest (length s) h) ∙ first-passed _ _ q)))

@@ -1,0 +1,41 @@
+-- What a line is refused with is the smallest number that applies: the table of every letter rises, and so does that of a whole line.
+use Prim.Native.Nat.{ℕ}
+use mathlib.Core.Bool.{Bool, true, false, cond}
+use mathlib.Core.Path.{_≡_, refl}
+use mathlib.Core.List.{List}
+use native.Mathlib.Omega.{arith}
+use lib.Dec.{eqb}
+use Rattle.text.specs.Fields.{split}
+use Rattle.refusals.specs.declared.Refusal.{Refusal}
+use Rattle.refusals.specs.declared.Verdict.{Verdict}
+use Rattle.refusals.specs.declared.Verdict.the-variants.{Clear, Turned as TurnedBy}
+use Rattle.refusals.specs.Refusals.{numberOf}
+use Rattle.refusals.proofs.Smallest.{Least, Rising, rises, rising, first-is-smallest}
+use Rattle.line_entry.specs.declared.Entry.{Entry}
+use Rattle.line_entry.specs.declared.Parsed.the-variants.{Turned}
+use Rattle.line_entry.specs.Rules.{Rule, parsed, areaAndYear, openRule, addRule, clearRule, plantRule, fileRule, withdrawRule}
+use Rattle.line_column.specs.Columns.{columnRule}
+use Rattle.line.specs.Lines.{bodyOf, letterOf, noRule, ruleOf, lineRule, conditions, entryOf}
+
+either : (t : Bool) (x y : Rule) → rises 1 (x .cases) ≡ true → rises 1 (y .cases) ≡ true → rises 1 (cond t x y .cases) ≡ true
+either true x y p q = p
+either false x y p q = q
+
+rules-rise : (b : ℕ) (fs : List (List ℕ)) → rises 1 (ruleOf b fs .cases) ≡ true
+unfolding ruleOf noRule columnRule areaAndYear openRule addRule clearRule plantRule fileRule withdrawRule rises
+rules-rise b fs =
+    either (eqb b 84) _ _ refl (either (eqb b 65) _ _ refl (either (eqb b 83) _ _ refl (either (eqb b 67) _ _ refl
+    (either (eqb b 80) _ _ refl (either (eqb b 82) _ _ refl (either (eqb b 87) _ _ refl refl))))))
+
+pub conditions-rise : (body : List ℕ) → Rising 1 (conditions body)
+unfolding conditions lineRule rises
+conditions-rise body = rising 1 (conditions body) (rules-rise (letterOf body) (split body))
+
+turned-by : (v : Verdict) (e : Entry) (r : Refusal) → parsed v e ≡ Turned r → v ≡ TurnedBy r
+unfolding parsed
+turned-by Clear e r q = let z : _≡_ {A = ℕ} 0 1 = cc in absurd (omega arith)
+turned-by (TurnedBy s) e r q = cc
+
+pub refused-smallest : (line : List ℕ) (r : Refusal) → entryOf line ≡ Turned r → Least (numberOf r) (conditions (bodyOf line))
+unfolding entryOf
+refused-smallest line r e = first-is-smallest 1 (conditions (bodyOf line)) r (conditions-rise (bodyOf line)) (turned-by _ _ r e)

@@ -1,0 +1,90 @@
+// A line, with its end or without, to an entry or a refusal.
+ghost use mathlib.Core.Path.{_≡_};
+ghost use Rattle.text.specs.Fields.{split};
+ghost use Rattle.line_entry.specs.Rules.{parsedBy};
+ghost use Rattle.line_column.specs.Columns.{roomFor, filled};
+ghost use Rattle.line.specs.Lines.{bodyOf, holdsEnd, letterOf, lineRule, entryOf};
+use line_entry::Parsed;
+use refusals::Refusal;
+use refusals::Verdict;
+
+// The longest line, besides its end.
+const LONGEST: usize = 1024;
+
+// The line besides its end.
+fn body(line: &[u8]) -> &[u8]
+    ensures { λ r. ⌜ now r ≡ bodyOf (now (line .entry)) ⌝ }
+{
+    let count = line.len();
+    if count == 0 {
+        return &line[0..count];
+    }
+    if line[count - 1] == 10 {
+        return &line[0..count - 1];
+    }
+    &line[0..count]
+}
+
+fn holds_end(body: &[u8]) -> bool
+    ensures { λ r. ⌜ r ≡ holdsEnd (now (body .entry)) ⌝ }
+{
+    let mut i = 0;
+    while i < body.len() {
+        if body[i] == 10 {
+            return true;
+        }
+        i += 1;
+    }
+    false
+}
+
+fn letter(body: &[u8]) -> u8
+    ensures { λ r. ⌜ r ≡ letterOf (now (body .entry)) ⌝ }
+{
+    if body.len() == 0 {
+        return 0;
+    }
+    if body.len() == 1 {
+        return body[0];
+    }
+    if body[1] == 44 {
+        return body[0];
+    }
+    0
+}
+
+fn by_letter(body: &[u8]) -> Parsed
+    ensures { λ r. ⌜ r ≡ parsedBy (lineRule (now (body .entry))) ⌝ }
+{
+    match letter(body) {
+        84 => line_column::column_entry(body),
+        65 => line_area::open_entry(body),
+        83 => line_sub::add_entry(body),
+        67 => line_stand::clear_entry(body),
+        80 => line_stand::plant_entry(body),
+        82 => line_area::file_entry(body),
+        87 => line_area::withdraw_entry(body),
+        _ => Parsed::Turned(Refusal::Form),
+    }
+}
+
+pub fn parse(line: &[u8]) -> Parsed
+    ensures { λ r. ⌜ r ≡ entryOf (now (line .entry)) ⌝ }
+{
+    let inner = body(line);
+    if LONGEST < inner.len() {
+        return Parsed::Turned(Refusal::Form);
+    }
+    if holds_end(inner) {
+        return Parsed::Turned(Refusal::Form);
+    }
+    by_letter(inner)
+}
+
+// Reads the cells of a T line into lent numbers, all of them or none.
+pub fn read_cells(line: &[u8], cells: &mut [u16]) -> Verdict
+    ensures { λ r. ⌜ r ≡ roomFor (split (bodyOf (now (line .entry)))) (now (cells .entry)) ⌝ }
+    ensures { λ _. ⌜ now (cells .exit) ≡ filled (split (bodyOf (now (line .entry)))) (now (cells .entry)) ⌝ }
+{
+    line_column::read_cells(body(line), cells)
+}

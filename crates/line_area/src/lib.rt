@@ -1,0 +1,83 @@
+// The entries of an accounting area: A opens it, R files a return, W withdraws it.
+ghost use mathlib.Core.Path.{_≡_};
+ghost use Rattle.text.specs.Fields.{split};
+ghost use Rattle.line_entry.specs.Rules.{parsedBy, openRule, fileRule, withdrawRule};
+ghost use Rattle.line_area.specs.Read.{areaYear};
+use line_entry::Entry;
+use line_entry::Parsed;
+use refusals::Refusal;
+use refusals::Verdict;
+
+// The fields of A and of R: what refuses them, and the area and the year.
+struct AreaAndYear {
+    verdict: Verdict,
+    area: u16,
+    year: u16,
+}
+
+fn area_and_year(line: &[u8]) -> AreaAndYear
+    ensures { λ r. ⌜ r ≡ areaYear (split (now (line .entry))) ⌝ }
+{
+    let places = text_field::scan(line);
+    let count = places.count;
+    let area = line_entry::number_at(line, places, 1);
+    let year = line_entry::number_at(line, places, 2);
+    let v = refusals::weigh(Verdict::Clear, count != 3, Refusal::Form);
+    let v = line_entry::weigh_form(v, area);
+    let v = line_entry::weigh_form(v, year);
+    let v = line_entry::weigh_area(v, area);
+    let v = line_entry::weigh_year(v, year);
+    AreaAndYear {
+        verdict: v,
+        area: text_value::value_u16(area),
+        year: text_value::value_u16(year),
+    }
+}
+
+// A,area,opening
+pub fn open_entry(line: &[u8]) -> Parsed
+    ensures { λ r. ⌜ r ≡ parsedBy (openRule (split (now (line .entry)))) ⌝ }
+{
+    let read = area_and_year(line);
+    let v = read.verdict;
+    match v {
+        Verdict::Turned(refusal) => Parsed::Turned(refusal),
+        Verdict::Clear => Parsed::Taken(Entry::Open {
+            area: read.area,
+            opening: read.year,
+        }),
+    }
+}
+
+// R,area,last
+pub fn file_entry(line: &[u8]) -> Parsed
+    ensures { λ r. ⌜ r ≡ parsedBy (fileRule (split (now (line .entry)))) ⌝ }
+{
+    let read = area_and_year(line);
+    let v = read.verdict;
+    match v {
+        Verdict::Turned(refusal) => Parsed::Turned(refusal),
+        Verdict::Clear => Parsed::Taken(Entry::File {
+            area: read.area,
+            last: read.year,
+        }),
+    }
+}
+
+// W,area
+pub fn withdraw_entry(line: &[u8]) -> Parsed
+    ensures { λ r. ⌜ r ≡ parsedBy (withdrawRule (split (now (line .entry)))) ⌝ }
+{
+    let places = text_field::scan(line);
+    let count = places.count;
+    let area = line_entry::number_at(line, places, 1);
+    let v = refusals::weigh(Verdict::Clear, count != 2, Refusal::Form);
+    let v = line_entry::weigh_form(v, area);
+    let v = line_entry::weigh_area(v, area);
+    match v {
+        Verdict::Turned(refusal) => Parsed::Turned(refusal),
+        Verdict::Clear => Parsed::Taken(Entry::Withdraw {
+            area: text_value::value_u16(area),
+        }),
+    }
+}

@@ -1,0 +1,126 @@
+-- Cells: a field of one byte stands for a place, and a turn of the scan adds a cell to what was judged and kept.
+use Prim.Native.Nat.{ℕ, _+_, _-_, _≤_, _<_}
+use mathlib.Core.Path.{_≡_, refl, sym, ap, _∙_}
+use mathlib.Core.Bool.{Bool, true, false, cond, _||_}
+use mathlib.Core.List.{List, [], _∷_}
+use native.Mathlib.Omega.{arith}
+use native.Mathlib.Numerals.{add-one}
+use borrow.Author.Tests.{lt-ltb, le-ltb}
+use lib.Dec.{eqb, lit≤}
+use lib.ListN.{length, getD, take, drop, set, length-drop, drop-of-length-le}
+use lib.Seq.{sets}
+use Rattle.laws.specs.Elements.{some}
+use Rattle.text.specs.Fields.{width, split}
+use Rattle.text.proofs.Fields.{field-last, field-comma}
+use Rattle.text_number.specs.declared.Number.{Number}
+use Rattle.text_value.specs.Ranges.{fitted}
+use Rattle.text_decimal.specs.Decimals.{cellIn}
+use Rattle.text_field.specs.declared.Places.{Places}
+use Rattle.text_field.specs.Places.{placesOf}
+use Rattle.text_field.proofs.Laws.{count-found}
+use Rattle.refusals.specs.declared.Refusal.the-variants.{OutputShort}
+use Rattle.refusals.specs.declared.Verdict.the-variants.{Clear, Turned}
+use Rattle.line_column.specs.declared.Place.{Place}
+use Rattle.line_column.specs.declared.Place.the-variants.{At, Nowhere}
+use Rattle.line_column.specs.Columns.{kindByte, typeByte, alone, kindOf, typeOf, placeOf, cellsOf, someCell, tenthsAll, cellsFound, roomFor, filled}
+
+pub one-byte : (place : ℕ → Place) (s : List ℕ) → length s ≡ 1 → place (getD s 0 0) ≡ alone place s
+unfolding alone
+one-byte place [] h = absurd (omega arith)
+one-byte place (b ∷ []) h = refl
+one-byte place (b ∷ d ∷ s) h = absurd (omega arith)
+
+pub no-one-byte : (place : ℕ → Place) (s : List ℕ) → (length s ≡ 1 → ⊥) → Nowhere ≡ alone place s
+unfolding alone
+no-one-byte place [] h = refl
+no-one-byte place (b ∷ []) h = absurd (h refl)
+no-one-byte place (b ∷ d ∷ s) h = refl
+
+pub no-place : (place : ℕ → Place) (s : List ℕ) → length s ≡ 1 → place (getD s 0 0) ≡ Nowhere → Nowhere ≡ alone place s
+no-place place s h e = sym e ∙ one-byte place s h
+
+-- ---- a turn of the scan
+
+module _ (s : List ℕ) (start end : ℕ) (e : end ≡ start + width (drop start s)) (h : start ≤ length s) (cell : Number)
+    (read : cell ≡ cellIn (take (end - start) (drop start s))) where
+  module _ (kind : Number → Bool) (found : Bool) (b : Bool) (q : b ≡ kind cell) where
+    pub judge-next : end < length s → (found || b) || someCell kind (split (drop (end + 1) s)) ≡ found || someCell kind (split (drop start s))
+    unfolding some
+    judge-next l = go found
+      where
+        go : (x : Bool) → (x || b) || someCell kind (split (drop (end + 1) s)) ≡ x || someCell kind (split (drop start s))
+        go true = refl
+        go false = rw (field-comma s start end e h l, q, read)
+
+    pub judge-last : length s ≤ end → end ≤ length s → found || b ≡ found || someCell kind (split (drop start s))
+    unfolding some
+    judge-last l u = go found
+      where
+        none : (x : Bool) → x ≡ x || false
+        none true = refl
+        none false = refl
+
+        go : (x : Bool) → x || b ≡ x || someCell kind (split (drop start s))
+        go true = refl
+        go false = rw (field-last s start end e h l u, q, read) (none _)
+
+  module _ (cells kept : List ℕ) (k tenths : ℕ) (q : kept ≡ set cells k tenths) (t : tenths ≡ fitted 65535 cell) where
+    pub keep-next : end < length s → sets kept (k + 1) (tenthsAll (split (drop (end + 1) s))) ≡ sets cells k (tenthsAll (split (drop start s)))
+    unfolding tenthsAll
+    keep-next l = rw (field-comma s start end e h l, q, t, read, add-one)
+
+    pub keep-last : length s ≤ end → end ≤ length s → kept ≡ sets cells k (tenthsAll (split (drop start s)))
+    unfolding tenthsAll
+    keep-last l u = rw (field-last s start end e h l u, q, t, read)
+
+-- ---- all the cells of a line, and room for them
+
+pub counted : (s : List ℕ) (places : Places) (n : ℕ) → places ≡ placesOf (split s) → n ≡ places .count - 3 → n ≡ length (cellsOf (split s))
+counted s places n scanned q = q ∙ ap (λ (m : ℕ). m - 3) (count-found s places scanned) ∙ sym (length-drop 3 (split s))
+
+module _ (fs : List (List ℕ)) (h : length fs ≤ 3) where
+  pub none-found : record { malformed = false; over = false } ≡ cellsFound (cellsOf fs)
+  unfolding cellsFound some
+  none-found = rw (drop-of-length-le fs h)
+
+  pub none-kept : (out : List ℕ) → out ≡ sets out 0 (tenthsAll (cellsOf fs))
+  unfolding tenthsAll
+  none-kept out = rw (drop-of-length-le fs h)
+
+module _ (fs : List (List ℕ)) (out : List ℕ) (n : ℕ) (e : n ≡ length (cellsOf fs)) where
+  pub short : length out < n → (Turned OutputShort ≡ roomFor fs out) × (out ≡ filled fs out)
+  unfolding roomFor filled
+  short l = let t = lt-ltb (length out) (length (cellsOf fs)) (omega arith) in (simp t, simp t)
+
+  pub enough : (kept : List ℕ) → n ≤ length out → kept ≡ sets out 0 (tenthsAll (cellsOf fs)) → (Clear ≡ roomFor fs out) × (kept ≡ filled fs out)
+  unfolding roomFor filled
+  enough kept l q = let t = le-ltb (length out) (length (cellsOf fs)) (omega arith) in (simp t, q ∙ simp t)
+
+-- ---- the column
+
+alone-le : (k : ℕ) (place : ℕ → Place) (s : List ℕ) → ((b : ℕ) → placeOf (place b) ≤ k) → placeOf (alone place s) ≤ k
+unfolding alone
+alone-le k place [] h = omega arith
+alone-le k place (b ∷ []) h = h b
+alone-le k place (b ∷ d ∷ s) h = omega arith
+
+pub kind-le : (p : Place) (s : List ℕ) → p ≡ kindOf s → placeOf p ≤ 5
+unfolding kindOf kindByte
+kind-le p s e = rw e (alone-le 5 kindByte s (λ b. go (eqb b 71) (eqb b 82)))
+  where
+    go : (g r : Bool) → placeOf (cond g (At 0) (cond r (At 5) Nowhere)) ≤ 5
+    go true r = lit≤ tt
+    go false true = lit≤ tt
+    go false false = lit≤ tt
+
+pub type-le : (p : Place) (s : List ℕ) → p ≡ typeOf s → placeOf p ≤ 4
+unfolding typeOf typeByte
+type-le p s e = rw e (alone-le 4 typeByte s (λ b. go (eqb b 80) (eqb b 68) (eqb b 83) (eqb b 72) (eqb b 78)))
+  where
+    go : (p d s h n : Bool) → placeOf (cond p (At 0) (cond d (At 1) (cond s (At 2) (cond h (At 3) (cond n (At 4) Nowhere))))) ≤ 4
+    go true d s h n = lit≤ tt
+    go false true s h n = lit≤ tt
+    go false false true h n = lit≤ tt
+    go false false false true n = lit≤ tt
+    go false false false false true = lit≤ tt
+    go false false false false false = lit≤ tt

@@ -1,0 +1,34 @@
+-- `line_column::all_cells` meets its contract: the fields from the fourth one's start on are the cells, where there is a fourth.
+use mathlib.Core.Path.{ap, _∙_}
+use native.Mathlib.Omega.{arith}
+use borrow.Author.Needs.{needs}
+use lib.Dec.{lit<}
+use lib.Seq.{sets}
+use Rattle.text.specs.Fields.{split}
+use Rattle.text_field.proofs.Laws.{count-found, start-found}
+use Rattle.line_column.specs.Columns.{tenthsAll, cellsFound}
+use Rattle.line_column.proofs.Laws.{none-found, none-kept}
+use Rattle.line_column.proofs.all_cells.Statement.{statement}
+use Rattle.line_column.proofs.all_cells.Tie as tie
+
+returns : tie.Need-returns
+returns c =
+    let start = c .before .before .before in
+    let few = count-found (start .args .line .now) (start .args .places) (start .pre) in
+    (none-found (split (start .args .line .now)) (omega arith), none-kept (split (start .args .line .now)) (omega arith) _)
+
+scan-cells-requires : tie.Need-scan-cells-requires
+scan-cells-requires c κs =
+    let start = c .before .before .before .before .before in
+    let e = count-found (start .args .line .now) (start .args .places) (start .pre) in
+    start-found (start .args .line .now) (start .args .places) (start .pre) 3 (lit< tt) (omega arith) .0
+
+returns-2 : tie.Need-returns-2
+returns-2 c =
+    let start = c .before .before .before .before .before .before .before .before in
+    let e = count-found (start .args .line .now) (start .args .places) (start .pre) in
+    let rest = start-found (start .args .line .now) (start .args .places) (start .pre) 3 (lit< tt) (omega arith) .1 in
+    (c .before .before .scan-cells .ensures .0 ∙ ap cellsFound rest, c .before .before .scan-cells .ensures .1 ∙ ap (λ fs. sets (start .args .cells .now) 0 (tenthsAll fs)) rest)
+
+pub all-cells-spec : {M : Type 1} → statement M
+all-cells-spec = tie.close (tie.spec returns (λ c. search needs) scan-cells-requires (λ c. search needs) returns-2)

@@ -1,0 +1,101 @@
+// The entries of a book, and the judging that their letters share.
+ghost use mathlib.Core.Path.{_≡_};
+ghost use Rattle.text_number.specs.Numbers.{numberIn};
+ghost use Rattle.text_value.specs.Ranges.{malformed};
+ghost use Rattle.text_field.specs.Places.{part};
+ghost use Rattle.refusals.specs.Refusals.{weighed};
+ghost use Rattle.refusals.specs.declared.Refusal.the-variants.{Form, AreaOrSubNumber, YearRange};
+ghost use Rattle.line_entry.specs.Ranges.{badArea, badSub, badYear};
+use forest::Forest;
+use refusals::Refusal;
+use refusals::Verdict;
+use refusals::weigh;
+use text_field::Places;
+use text_number::Number;
+use units::Tenths;
+
+pub enum Entry {
+    Open {
+        area: u16,
+        opening: u16,
+    },
+    Add {
+        area: u16,
+        sub: u8,
+        land: Tenths,
+        forest: Forest,
+        planted: u16,
+    },
+    Clear {
+        area: u16,
+        sub: u8,
+        year: u16,
+    },
+    Plant {
+        area: u16,
+        sub: u8,
+        forest: Forest,
+        year: u16,
+    },
+    File {
+        area: u16,
+        last: u16,
+    },
+    Withdraw {
+        area: u16,
+    },
+    // A column of the participant's table, 0 to 9, and how many cells its line has.
+    Column {
+        column: usize,
+        cells: usize,
+    },
+}
+
+// What a line says.
+pub enum Parsed {
+    Taken(Entry),
+    Turned(Refusal),
+}
+
+// The number in the field at a place.
+pub fn number_at(line: &[u8], places: Places, k: usize) -> Number
+    ensures { λ r. ⌜ r ≡ numberIn (part (now (line .entry)) places k) ⌝ }
+{
+    text_number::read(text_field::field(line, places, k))
+}
+
+pub fn weigh_form(so_far: Verdict, number: Number) -> Verdict
+    ensures { λ r. ⌜ r ≡ weighed «so_far» (malformed number) Form ⌝ }
+{
+    weigh(so_far, text_value::is_malformed(number), Refusal::Form)
+}
+
+pub fn weigh_area(so_far: Verdict, area: Number) -> Verdict
+    ensures { λ r. ⌜ r ≡ weighed «so_far» (badArea area) AreaOrSubNumber ⌝ }
+{
+    weigh(
+        so_far,
+        text_value::is_outside(area, 1, ranges::LAST_AREA as u64),
+        Refusal::AreaOrSubNumber,
+    )
+}
+
+pub fn weigh_sub(so_far: Verdict, sub: Number) -> Verdict
+    ensures { λ r. ⌜ r ≡ weighed «so_far» (badSub sub) AreaOrSubNumber ⌝ }
+{
+    weigh(
+        so_far,
+        text_value::is_outside(sub, 1, ranges::LAST_SUB as u64),
+        Refusal::AreaOrSubNumber,
+    )
+}
+
+pub fn weigh_year(so_far: Verdict, year: Number) -> Verdict
+    ensures { λ r. ⌜ r ≡ weighed «so_far» (badYear year) YearRange ⌝ }
+{
+    weigh(
+        so_far,
+        text_value::is_outside(year, ranges::FIRST_YEAR as u64, ranges::LAST_YEAR as u64),
+        Refusal::YearRange,
+    )
+}

@@ -1,0 +1,63 @@
+// The entries of a sub-area's stand: C clears it, P plants it.
+ghost use mathlib.Core.Path.{_≡_};
+ghost use Rattle.text.specs.Fields.{split};
+ghost use Rattle.line_entry.specs.Rules.{parsedBy, clearRule, plantRule};
+use line_entry::Entry;
+use line_entry::Parsed;
+use refusals::Refusal;
+use refusals::Verdict;
+
+// C,area,sub,year
+pub fn clear_entry(line: &[u8]) -> Parsed
+    ensures { λ r. ⌜ r ≡ parsedBy (clearRule (split (now (line .entry)))) ⌝ }
+{
+    let places = text_field::scan(line);
+    let count = places.count;
+    let area = line_entry::number_at(line, places, 1);
+    let sub = line_entry::number_at(line, places, 2);
+    let year = line_entry::number_at(line, places, 3);
+    let v = refusals::weigh(Verdict::Clear, count != 4, Refusal::Form);
+    let v = line_entry::weigh_form(v, area);
+    let v = line_entry::weigh_form(v, sub);
+    let v = line_entry::weigh_form(v, year);
+    let v = line_entry::weigh_area(v, area);
+    let v = line_entry::weigh_sub(v, sub);
+    let v = line_entry::weigh_year(v, year);
+    match v {
+        Verdict::Turned(refusal) => Parsed::Turned(refusal),
+        Verdict::Clear => Parsed::Taken(Entry::Clear {
+            area: text_value::value_u16(area),
+            sub: text_value::value_u8(sub),
+            year: text_value::value_u16(year),
+        }),
+    }
+}
+
+// P,area,sub,type,year
+pub fn plant_entry(line: &[u8]) -> Parsed
+    ensures { λ r. ⌜ r ≡ parsedBy (plantRule (split (now (line .entry)))) ⌝ }
+{
+    let places = text_field::scan(line);
+    let count = places.count;
+    let area = line_entry::number_at(line, places, 1);
+    let sub = line_entry::number_at(line, places, 2);
+    let named = forest::read(text_field::field(line, places, 3));
+    let year = line_entry::number_at(line, places, 4);
+    let v = refusals::weigh(Verdict::Clear, count != 5, Refusal::Form);
+    let v = line_entry::weigh_form(v, area);
+    let v = line_entry::weigh_form(v, sub);
+    let v = line_entry::weigh_form(v, year);
+    let v = line_entry::weigh_area(v, area);
+    let v = line_entry::weigh_sub(v, sub);
+    let v = refusals::weigh(v, line_type::is_unplantable(named), Refusal::ForestType);
+    let v = line_entry::weigh_year(v, year);
+    match v {
+        Verdict::Turned(refusal) => Parsed::Turned(refusal),
+        Verdict::Clear => Parsed::Taken(Entry::Plant {
+            area: text_value::value_u16(area),
+            sub: text_value::value_u8(sub),
+            forest: line_type::forest_of(named),
+            year: text_value::value_u16(year),
+        }),
+    }
+}

@@ -1,0 +1,31 @@
+-- The bounds on an area's fields that a step relies on, read off the tests that its fields pass.
+use Prim.Native.Nat.{_+_, _*_, _≤_}
+use mathlib.Core.Bool.{true}
+use mathlib.Core.Path.{_≡_}
+use borrow.Author.Tests.{leb-true}
+use Rattle.laws.proofs.Tests.{AllTrue, all-true}
+use Rattle.holding.specs.declared.Area.{Area}
+use Rattle.statement_carried.specs.Carried.{yearsCarried, amountsCarried, fieldsCarried}
+
+pub record Bounds (area : Area) : Type 0 where
+  pub count : area .count ≤ 16
+  pub open-year : area .«open_year» ≤ 2200
+  pub returns : area .returns + area .opening ≤ area .«open_year»
+  pub stock : area .stock .0 ≤ 60000000000 * area .count
+  pub received : area .received ≤ 1000000000 * area .returns
+  pub surrendered : area .surrendered ≤ area .received
+
+pub bounds : (area : Area) → fieldsCarried area ≡ true → Bounds area
+unfolding fieldsCarried yearsCarried amountsCarried AllTrue
+bounds area e =
+    let fields = all-true _ e in
+    let years = all-true _ (fields .1 .1 .0) in
+    let amounts = all-true _ (fields .1 .1 .1 .0) in
+    record {
+      count = leb-true _ _ (fields .0);
+      open-year = leb-true _ _ (years .1 .1 .0);
+      returns = leb-true _ _ (years .1 .1 .1 .1 .1 .0);
+      stock = leb-true _ _ (amounts .0);
+      received = leb-true _ _ (amounts .1 .0);
+      surrendered = leb-true _ _ (amounts .1 .1 .0);
+    }

@@ -1,0 +1,25 @@
+-- `statement_carried::fields` meets its contract: a count past the sub-areas' places is refused before the product is taken.
+use borrow.Author.Tests.{le-leb, lt-leb}
+use Rattle.laws.specs.Tests.{allOf}
+use Rattle.statement_carried.specs.Carried.{fieldsCarried}
+use borrow.Author.Needs.{needs}
+use Rattle.statement_carried.proofs.fields.Statement.{statement}
+use Rattle.statement_carried.proofs.fields.Tie as tie
+
+returns : tie.Need-returns
+unfolding fieldsCarried allOf
+returns c = simp (lt-leb _ _ (c .if1 .taken))
+
+returns-2 : tie.Need-returns-2
+unfolding fieldsCarried allOf
+returns-2 c = simp (c .amounts .ensures, c .before .years .ensures, c .before .before .is-area .ensures, le-leb _ _ (c .before .before .before .if1 .left))
+
+pub fields-spec : {M : Type 1} → statement M
+fields-spec =
+    tie.close
+    (tie.spec
+    returns
+    (λ c κs. search needs)
+    (λ c κs. search needs)
+    (λ c κs. search needs)
+    returns-2)

@@ -1,0 +1,58 @@
+-- What stands at a place of a list of bytes, and the place after it. The place 0 is nowhere. The reader's own: `accepts-just-when` (trips)
+-- says what it comes to by `carried` and `statementOf` alone.
+use Prim.Native.Nat.{ℕ, zero, suc, _+_}
+use mathlib.Core.Bool.{cond, _&&_}
+use mathlib.Core.List.{List, [], _∷_}
+use lib.Dec.{eqb, leb, ltb}
+use lib.ListN.{length, take, drop, getD}
+use Rattle.text_number.specs.declared.Number.{Number}
+use Rattle.text_number.specs.declared.Number.the-variants.{Value, Large, Malformed}
+use Rattle.text_number.specs.Numbers.{numberIn}
+use Rattle.forest.specs.declared.Forest.the-variants.{Bare}
+use Rattle.forest.specs.declared.Named.{Named}
+use Rattle.forest.specs.declared.Named.the-variants.{Listed, Unlisted}
+use Rattle.forest.specs.Letters.{named}
+use Rattle.statement_cursor.specs.declared.NumberField.{NumberField}
+use Rattle.statement_cursor.specs.declared.TypeField.{TypeField}
+
+-- how many bytes there are before the first byte `end`, or in all
+unfoldable pub widthTo : ℕ → List ℕ → ℕ
+widthTo end [] = zero
+widthTo end (b ∷ bs) = cond (eqb b end) zero (suc (widthTo end bs))
+
+-- a field is what stands before the first byte `end`, which must be there; `read` says what it is, by the place after it and its bytes
+unfoldable pub fieldOf : {A : Type 0} → A → (ℕ → List ℕ → A) → List ℕ → ℕ → ℕ → A
+fieldOf none read s at width = cond (eqb at 0) none (cond (leb (length s) (at + width)) none (read (at + width + 1) (take width (drop at s))))
+
+unfoldable pub fieldBy : {A : Type 0} → A → (ℕ → List ℕ → A) → List ℕ → ℕ → ℕ → A
+fieldBy none read s at end = fieldOf none read s at (widthTo end (drop at s))
+
+abbrev pub noNumber : NumberField
+noNumber = record { value = 0; next = 0 }
+
+abbrev pub noType : TypeField
+noType = record { forest = Bare; next = 0 }
+
+-- a number of at most `most`
+unfoldable pub numberBefore : ℕ → ℕ → Number → NumberField
+numberBefore most next (Value v) = cond (leb v most) (record { value = v; next = next }) noNumber
+numberBefore most next Large = noNumber
+numberBefore most next Malformed = noNumber
+
+unfoldable pub numberAt : List ℕ → ℕ → ℕ → ℕ → NumberField
+numberAt s at end most = fieldBy noNumber (λ next bytes. numberBefore most next (numberIn bytes)) s at end
+
+unfoldable pub typeBefore : ℕ → Named → TypeField
+typeBefore next (Listed forest) = record { forest = forest; next = next }
+typeBefore next Unlisted = noType
+
+unfoldable pub typeAt : List ℕ → ℕ → ℕ → TypeField
+typeAt s at end = fieldBy noType (λ next bytes. typeBefore next (named bytes)) s at end
+
+-- the letter that starts a line, and the comma after it
+unfoldable pub startAt : List ℕ → ℕ → ℕ → ℕ
+startAt s at letter = cond (ltb (at + 1) (length s) && eqb (getD s at 0) letter && eqb (getD s (at + 1) 0) 44) (at + 2) 0
+
+-- the same, where `at` is not the statement's start
+unfoldable pub lineAt : List ℕ → ℕ → ℕ → ℕ
+lineAt s at letter = cond (eqb at 0) 0 (startAt s at letter)

@@ -1,0 +1,62 @@
+-- `statement_distinct::area_bears` meets its contract. The loop's invariant: what was found and what stands from here on make the whole.
+use Prim.Native.Nat.{_-_}
+use mathlib.Core.Bool.{false, _||_}
+use mathlib.Core.List.{[]}
+use mathlib.Core.Path.{_≡_, refl}
+use native.Mathlib.Omega.{arith}
+use lib.Dec.{eqb}
+use lib.ListN.{length, take, drop}
+use Rattle.laws.specs.Elements.{some}
+use Rattle.laws.proofs.Standing.{as-long}
+use Rattle.laws.proofs.Turns.{some-end, some-out, some-more}
+use Rattle.holding.specs.declared.Area.{Area}
+use borrow.Author.Needs.{needs}
+use Rattle.statement_distinct.proofs.area_bears.Statement.{statement}
+use Rattle.statement_distinct.proofs.area_bears.Tie as tie
+
+-- what a look past the array would find
+abbrev blank : Area
+blank = record { number = 0; opening = 0; «open_year» = 0; latest = 0; withdrawn = false; returns = 0; stock = record { 0 = 0 }; received = 0; surrendered = 0; count = 0; subs = [] }
+
+abbrev Inv-loop : tie.InvT-loop
+Inv-loop from number holding n found₀ i₀ found i =
+    (found || some (λ (x : Area). eqb (x .number) number) (drop i (take n (holding .areas)))) ≡ some (λ (x : Area). eqb (x .number) number) (drop from (take n (holding .areas)))
+
+abbrev μ-loop : tie.MeasureT-loop
+μ-loop from number holding n found₀ i₀ found i = 16 - i
+
+sixteen : (c : tie.Start Inv-loop μ-loop) → length (c .args .t1 .areas) ≡ 16
+sixteen c = search (needs, as-long)
+
+loop-holds : tie.Need-loop-holds Inv-loop μ-loop
+loop-holds c = refl
+
+returns : tie.Need-returns Inv-loop μ-loop
+returns c = some-end _ _ _ _ _ _ (c .before .before .loop .inv) (c .if1 .taken)
+
+loop-again : tie.Need-loop-again Inv-loop μ-loop
+loop-again c =
+    let b = c .before .before in
+    let a = b .before .args in
+    some-more (λ (x : Area). eqb (x .number) (a .number)) (a .t1 .areas) (a .t1 .count) (b .loop .i) (b .loop .found) _ (b .loop .inv) blank _ (c .if1 .left) (omega (arith, sixteen (b .before))) refl
+
+returns-2 : tie.Need-returns-2 Inv-loop μ-loop
+returns-2 c =
+    let b = c .before in
+    let a = b .before .args in
+    some-out (λ (x : Area). eqb (x .number) (a .number)) (a .t1 .areas) (a .t1 .count) (b .loop .i) _ _ (b .loop .inv) (omega (arith, sixteen (b .before)))
+
+pub area-bears-spec : {M : Type 1} → statement M
+area-bears-spec =
+    tie.close
+    (tie.spec
+    Inv-loop
+    μ-loop
+    loop-holds
+    returns
+    (λ c. search needs)
+    (λ c. search needs)
+    (λ c. search needs)
+    (λ c. search needs)
+    loop-again
+    returns-2)

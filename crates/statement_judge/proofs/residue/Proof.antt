@@ -1,0 +1,20 @@
+-- `statement_judge::residue` meets its contract, by whether there is a residue.
+use mathlib.Core.Path.{sym, _∙_}
+use Rattle.laws.specs.Tests.{allOf}
+use Rattle.statement_carried.specs.Carried.{residueCarried}
+use borrow.Author.Needs.{needs}
+use Rattle.statement_judge.proofs.residue.Statement.{statement}
+use Rattle.statement_judge.proofs.residue.Tie as tie
+
+returns : tie.Need-returns
+unfolding residueCarried allOf
+returns c = simp (sym (c .before .before .before .is-bare .ensures) ∙ c .before .before .if1 .taken)
+
+returns-2 : tie.Need-returns-2
+unfolding residueCarried allOf
+returns-2 c =
+    let b = c .before .before .before .before .before in
+    simp (sym (b .before .is-bare .ensures) ∙ b .if1 .left)
+
+pub residue-spec : {M : Type 1} → statement M
+residue-spec = tie.close (tie.spec (λ c κs. search needs) returns returns-2)

@@ -1,0 +1,93 @@
+// Whether a statement carries a holding.
+ghost use mathlib.Core.Path.{_≡_};
+ghost use Prim.Native.Nat.{max};
+ghost use Rattle.laws.specs.Elements.{every};
+ghost use Rattle.holding.specs.Holding.{areasOf, subsOf};
+ghost use Rattle.statement_carried.specs.Carried.{residueCarried, subCarried, areaCarried, carried};
+use holding::Area;
+use holding::Holding;
+use holding::Residue;
+use holding::Sub;
+
+const OLDEST_RESIDUE: u16 = 299;
+
+const MOST_AREAS: usize = 16;
+
+fn residue(area: Area, residue: Residue) -> bool
+    ensures { λ r. ⌜ r ≡ residueCarried area residue ⌝ }
+{
+    let forest = residue.forest;
+    if ranges::is_bare(forest) {
+        return (residue.age == 0) & (residue.year == 0);
+    }
+    (area.opening <= residue.year) & (residue.year <= area.latest) & (residue.age <= OLDEST_RESIDUE)
+}
+
+fn greater(a: u16, b: u16) -> u16
+    ensures { λ r. ⌜ r ≡ max a b ⌝ }
+{
+    if a < b {
+        return b;
+    }
+    a
+}
+
+fn sub(area: Area, sub: Sub) -> bool
+    ensures { λ r. ⌜ r ≡ subCarried area sub ⌝ }
+{
+    let land = sub.tenths;
+    let forest = sub.forest;
+    let left = sub.residue;
+    ranges::is_sub(sub.number)
+        & ranges::is_land(land)
+        & ranges::is_planted(forest, sub.planted)
+        & (sub.planted <= greater(area.opening, area.latest))
+        & residue(area, left)
+}
+
+fn subs(area: Area) -> bool
+    ensures { λ r. ⌜ r ≡ every (subCarried area) (subsOf area) ⌝ }
+{
+    let n = area.count;
+    let mut kept = true;
+    let mut i: usize = 0;
+    while i < 16 {
+        if n <= i {
+            return kept;
+        }
+        let one = area.subs[i];
+        kept = kept & sub(area, one);
+        i += 1;
+    }
+    kept
+}
+
+fn area(area: Area) -> bool
+    ensures { λ r. ⌜ r ≡ areaCarried area ⌝ }
+{
+    statement_carried::fields(area) & subs(area) & statement_distinct::subs(area)
+}
+
+fn areas(holding: Holding) -> bool
+    ensures { λ r. ⌜ r ≡ every areaCarried (areasOf holding) ⌝ }
+{
+    let n = holding.count;
+    let mut kept = true;
+    let mut i: usize = 0;
+    while i < 16 {
+        if n <= i {
+            return kept;
+        }
+        let one = holding.areas[i];
+        kept = kept & area(one);
+        i += 1;
+    }
+    kept
+}
+
+// The list of a statement's conditions, each area and sub-area gone through once but for their numbers.
+pub fn holding(holding: Holding) -> bool
+    ensures { λ r. ⌜ r ≡ carried holding ⌝ }
+{
+    (holding.count <= MOST_AREAS) & areas(holding) & statement_distinct::areas(holding)
+}

@@ -1,0 +1,126 @@
+-- How a statement is read: field by field, each at the place after the one before. A number is read as far as its place in the holding has
+-- room for it; its range is judged afterwards. What is accepted so is a carried holding's bytes and no other: `accepts-just-when` (trips).
+use Prim.Native.Nat.{ℕ, zero, suc, _+_}
+use mathlib.Core.List.{List}
+use lib.Dec.{eqb}
+use lib.ListN.{set, replicate}
+use Rattle.holding.specs.declared.Sub.{Sub}
+use Rattle.holding.specs.declared.Area.{Area}
+use Rattle.holding.specs.Holding.{mostAreas, mostSubs, emptySub, emptyArea}
+use Rattle.statement_cursor.specs.Cursor.{numberAt, typeAt, startAt, lineAt}
+use Rattle.statement_parse.specs.declared.ResidueRead.{ResidueRead}
+use Rattle.statement_parse.specs.declared.SubRead.{SubRead}
+use Rattle.statement_parse.specs.declared.SubsRead.{SubsRead}
+use Rattle.statement_parse.specs.declared.YearsRead.{YearsRead}
+use Rattle.statement_parse.specs.declared.AmountsRead.{AmountsRead}
+use Rattle.statement_parse.specs.declared.AreaRead.{AreaRead}
+use Rattle.statement_parse.specs.declared.AreasRead.{AreasRead}
+use Rattle.statement_parse.specs.declared.HoldingRead.{HoldingRead}
+
+-- the greatest numbers of 8, 16 and 32 bits, and of fifteen digits
+abbrev pub most8 : ℕ
+most8 = 255
+
+abbrev pub most16 : ℕ
+most16 = 65535
+
+abbrev pub most32 : ℕ
+most32 = 4294967295
+
+abbrev pub mostRead : ℕ
+mostRead = 999999999999999
+
+unfoldable pub residueAt : List ℕ → ℕ → ResidueRead
+residueAt s at =
+    let type = typeAt s at 44 in
+    let age = numberAt s (type .next) 44 most16 in
+    let year = numberAt s (age .next) 10 most16 in
+    record { residue = record { forest = type .forest; age = age .value; year = year .value }; next = year .next }
+
+unfoldable pub subLineAt : List ℕ → ℕ → SubRead
+subLineAt s at =
+    let number = numberAt s (lineAt s at 83) 44 most8 in
+    let tenths = numberAt s (number .next) 44 most32 in
+    let type = typeAt s (tenths .next) 44 in
+    let planted = numberAt s (type .next) 44 most16 in
+    let residue = residueAt s (planted .next) in
+    record {
+      sub = record {
+        number = number .value;
+        tenths = record { 0 = tenths .value };
+        forest = type .forest;
+        planted = planted .value;
+        residue = residue .residue;
+      };
+      next = residue .next;
+    }
+
+-- k more items put into a list from the place i on: the list, and the place in the bytes after them
+unfoldable pub itemsFrom : {A : Type 0} → (ℕ → A) → (ℕ → ℕ) → ℕ → ℕ → List A → ℕ → List A × ℕ
+itemsFrom item next zero i l at = (l, at)
+itemsFrom item next (suc k) i l at = itemsFrom item next k (i + 1) (set l i (item at)) (next at)
+
+unfoldable pub subsFrom : List ℕ → ℕ → ℕ → List Sub → ℕ → List Sub × ℕ
+subsFrom s = itemsFrom (λ at. subLineAt s at .sub) (λ at. subLineAt s at .next)
+
+unfoldable pub subsAt : List ℕ → ℕ → ℕ → SubsRead
+subsAt s at count = let read = subsFrom s count 0 (replicate mostSubs emptySub) at in record { subs = read .0; next = read .1 }
+
+unfoldable pub yearsAt : List ℕ → ℕ → YearsRead
+yearsAt s at =
+    let number = numberAt s at 44 most16 in
+    let opening = numberAt s (number .next) 44 most16 in
+    let openYear = numberAt s (opening .next) 44 most16 in
+    let latest = numberAt s (openYear .next) 44 most16 in
+    record { number = number .value; opening = opening .value; «open_year» = openYear .value; latest = latest .value; next = latest .next }
+
+unfoldable pub amountsAt : List ℕ → ℕ → AmountsRead
+amountsAt s at =
+    let withdrawn = numberAt s at 44 1 in
+    let returns = numberAt s (withdrawn .next) 44 most16 in
+    let stock = numberAt s (returns .next) 44 mostRead in
+    let received = numberAt s (stock .next) 44 mostRead in
+    let surrendered = numberAt s (received .next) 44 mostRead in
+    record {
+      withdrawn = eqb (withdrawn .value) 1;
+      returns = returns .value;
+      stock = record { 0 = stock .value };
+      received = received .value;
+      surrendered = surrendered .value;
+      next = surrendered .next;
+    }
+
+unfoldable pub areaLineAt : List ℕ → ℕ → AreaRead
+areaLineAt s at =
+    let years = yearsAt s (lineAt s at 65) in
+    let amounts = amountsAt s (years .next) in
+    let count = numberAt s (amounts .next) 10 mostSubs in
+    let subs = subsAt s (count .next) (count .value) in
+    record {
+      area = record {
+        number = years .number;
+        opening = years .opening;
+        «open_year» = years .«open_year»;
+        latest = years .latest;
+        withdrawn = amounts .withdrawn;
+        returns = amounts .returns;
+        stock = amounts .stock;
+        received = amounts .received;
+        surrendered = amounts .surrendered;
+        count = count .value;
+        subs = subs .subs;
+      };
+      next = subs .next;
+    }
+
+unfoldable pub areasFrom : List ℕ → ℕ → ℕ → List Area → ℕ → List Area × ℕ
+areasFrom s = itemsFrom (λ at. areaLineAt s at .area) (λ at. areaLineAt s at .next)
+
+unfoldable pub areasAt : List ℕ → ℕ → ℕ → AreasRead
+areasAt s at count = let read = areasFrom s count 0 (replicate mostAreas emptyArea) at in record { areas = read .0; next = read .1 }
+
+unfoldable pub holdingAt : List ℕ → HoldingRead
+holdingAt s =
+    let count = numberAt s (startAt s 0 72) 10 mostAreas in
+    let areas = areasAt s (count .next) (count .value) in
+    record { holding = record { count = count .value; areas = areas .areas }; next = areas .next }

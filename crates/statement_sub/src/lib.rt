@@ -1,0 +1,59 @@
+// The lines of an area's sub-areas, written into a lent buffer at any place.
+ghost use Rattle.statement_format.specs.Format.{typeText, texts, residueText, subText};
+ghost use Rattle.holding.specs.Holding.{subsOf};
+ghost use Rattle.statement_field.specs.Put.{Put};
+use forest::Forest;
+use holding::Area;
+use holding::Residue;
+use holding::Sub;
+
+fn put_type(out: &mut [u8], at: usize, forest: Forest, end: u8) -> usize
+    ensures { λ r. ⌜ Put 3 (now (out .entry)) at (typeText forest end) (now (out .exit)) r ⌝ }
+{
+    let letters = forest::write(forest);
+    let len = letters.len;
+    let bytes = letters.bytes;
+    let next = text::put_bytes(out, at, &bytes[0..len]);
+    text::put_byte(out, next, end)
+}
+
+fn put_residue(out: &mut [u8], at: usize, residue: Residue) -> usize
+    ensures { λ r. ⌜ Put 15 (now (out .entry)) at (residueText residue) (now (out .exit)) r ⌝ }
+{
+    let forest = residue.forest;
+    let next = put_type(out, at, forest, 44);
+    let next = statement_field::put_short(out, next, residue.age, 44);
+    statement_field::put_short(out, next, residue.year, 10)
+}
+
+fn put_sub(out: &mut [u8], at: usize, sub: Sub) -> usize
+    ensures { λ r. ⌜ Put 53 (now (out .entry)) at (subText sub) (now (out .exit)) r ⌝ }
+{
+    let tenths = sub.tenths;
+    let forest = sub.forest;
+    let residue = sub.residue;
+    let next = statement_field::put_start(out, at, 83);
+    let next = statement_field::put_short(out, next, sub.number as u16, 44);
+    let next = statement_field::put_field(out, next, tenths.0 as u64, 44);
+    let next = put_type(out, next, forest, 44);
+    let next = statement_field::put_short(out, next, sub.planted, 44);
+    put_residue(out, next, residue)
+}
+
+// Puts the lines of an area's sub-areas, in order of adding; the answer is the place after what was put.
+pub fn put_subs(out: &mut [u8], at: usize, area: Area) -> usize
+    ensures { λ r. ⌜ Put 848 (now (out .entry)) at (texts subText (subsOf area)) (now (out .exit)) r ⌝ }
+{
+    let n = area.count;
+    let mut next = at;
+    let mut i: usize = 0;
+    while i < 16 {
+        if n <= i {
+            return next;
+        }
+        let sub = area.subs[i];
+        next = put_sub(out, next, sub);
+        i += 1;
+    }
+    next
+}

@@ -1,0 +1,87 @@
+// Writes a holding as a statement. One set of functions measures and writes, since a byte past a buffer's end is not stored.
+ghost use mathlib.Core.Path.{_≡_};
+ghost use Prim.Native.Nat.{_≤_};
+ghost use lib.ListN.{length};
+ghost use Rattle.text.specs.Writing.{Wrote};
+ghost use Rattle.statement_format.specs.Format.{flag, yearsText, amountsText, areaText, statementOf};
+ghost use Rattle.statement_field.specs.Put.{Put};
+ghost use Rattle.refusals.specs.Answers.{written, bufferAfter};
+ghost use Rattle.statement_write.specs.Writable.{writable};
+use holding::Area;
+use holding::Holding;
+use refusals::Refusal;
+use refusals::Written;
+
+fn put_years(out: &mut [u8], at: usize, area: Area) -> usize
+    ensures { λ r. ⌜ Put 24 (now (out .entry)) at (yearsText area) (now (out .exit)) r ⌝ }
+{
+    let next = statement_field::put_short(out, at, area.number, 44);
+    let next = statement_field::put_short(out, next, area.opening, 44);
+    let next = statement_field::put_short(out, next, area.open_year, 44);
+    statement_field::put_short(out, next, area.latest, 44)
+}
+
+fn as_number(withdrawn: bool) -> u64
+    ensures { λ r. ⌜ r ≡ flag withdrawn ⌝ }
+{
+    if withdrawn {
+        return 1;
+    }
+    0
+}
+
+fn put_amounts(out: &mut [u8], at: usize, area: Area) -> usize
+    ensures { λ r. ⌜ Put 90 (now (out .entry)) at (amountsText area) (now (out .exit)) r ⌝ }
+{
+    let stock = area.stock;
+    let withdrawn = as_number(area.withdrawn);
+    let next = statement_field::put_field(out, at, withdrawn, 44);
+    let next = statement_field::put_short(out, next, area.returns, 44);
+    let next = statement_field::put_field(out, next, stock.0, 44);
+    let next = statement_field::put_field(out, next, area.received, 44);
+    statement_field::put_field(out, next, area.surrendered, 44)
+}
+
+fn put_area(out: &mut [u8], at: usize, area: Area) -> usize
+    ensures { λ r. ⌜ Put 985 (now (out .entry)) at (areaText area) (now (out .exit)) r ⌝ }
+{
+    let next = statement_field::put_start(out, at, 65);
+    let next = put_years(out, next, area);
+    let next = put_amounts(out, next, area);
+    let next = statement_field::put_field(out, next, area.count as u64, 10);
+    statement_sub::put_subs(out, next, area)
+}
+
+// Puts the holding's statement at a place; the answer is the place after it. The holding is handed on to no other function, and so copied once.
+pub fn put_statement(out: &mut [u8], at: usize, holding: Holding) -> usize
+    ensures { λ r. ⌜ Wrote (now (out .entry)) at (statementOf holding) (now (out .exit)) r ⌝ }
+    ensures { λ _. ⌜ length (statementOf holding) ≤ 15783 ⌝ }
+{
+    let n = holding.count;
+    let start = statement_field::put_start(out, at, 72);
+    let mut next = statement_field::put_field(out, start, n as u64, 10);
+    let mut i: usize = 0;
+    while i < 16 {
+        if n <= i {
+            return next;
+        }
+        let area = holding.areas[i];
+        next = put_area(out, next, area);
+        i += 1;
+    }
+    next
+}
+
+// Writes the holding's statement to the front of `out`: how many bytes it has, or why it is not written.
+pub fn write(holding: Holding, out: &mut [u8]) -> Written
+    ensures { λ r. ⌜ r ≡ written (writable (statementOf holding) (length (now (out .entry)))) (statementOf holding) ⌝ }
+    ensures { λ _. ⌜ now (out .exit) ≡ bufferAfter (writable (statementOf holding) (length (now (out .entry)))) (statementOf holding) (now (out .entry)) ⌝ }
+{
+    let mut unkept = [0u8; 1];
+    let need = put_statement(&mut unkept, 0, holding);
+    if out.len() < need {
+        return Written::Refused(Refusal::OutputShort);
+    }
+    let count = put_statement(out, 0, holding);
+    Written::Count(count)
+}

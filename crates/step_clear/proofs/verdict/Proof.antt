@@ -1,0 +1,48 @@
+-- `step_clear::verdict` meets its contract: the cases in turn are the table's.
+use Rattle.refusals.specs.Refusals.{weighAll, smallest}
+use Rattle.step_outcome.specs.Outcomes.{areaCases}
+use Rattle.step_clear.specs.Clearing.{clearCases}
+use borrow.Author.Needs.{needs}
+use Rattle.step_clear.proofs.verdict.Statement.{statement}
+use Rattle.step_clear.proofs.verdict.Tie as tie
+
+returns : tie.Need-returns
+unfolding clearCases areaCases smallest weighAll
+returns c =
+    let w = c .before .before .before .before in
+    let x = w .before .before .before .before in
+    let y = x .before .before .before .before in
+    simp (
+      c .weigh5 .ensures,
+      c .before .before .before .weigh4 .ensures,
+      w .is-bare .ensures,
+      w .before .weigh3 .ensures,
+      w .before .before .is-known .ensures,
+      w .before .before .before .weigh-area .ensures,
+      x .weigh2 .ensures,
+      x .before .is-year .ensures,
+      x .before .before .weigh .ensures,
+      x .before .before .before .is-sub .ensures,
+      y .is-area .ensures,
+      y .before .sub-at .ensures,
+      y .before .before .find-sub .ensures,
+    )
+
+pub verdict-spec : {M : Type 1} → statement M
+verdict-spec =
+    tie.close
+    (tie.spec
+    (λ c κs. search needs)
+    (λ c κs. search needs)
+    (λ c κs. search needs)
+    (λ c κs. search needs)
+    (λ c κs. search needs)
+    (λ c κs. search needs)
+    (λ c κs. search needs)
+    (λ c κs. search needs)
+    (λ c κs. search needs)
+    (λ c κs. search needs)
+    (λ c κs. search needs)
+    (λ c κs. search needs)
+    (λ c κs. search needs)
+    returns)

@@ -1,0 +1,76 @@
+// C clears a sub-area: its trees become its residue.
+ghost use mathlib.Core.Path.{_≡_};
+ghost use Rattle.refusals.specs.Refusals.{smallest};
+ghost use Rattle.step_clear.specs.Clearing.{clearCases, clearedSub, clearedArea, cleared};
+use forest::Forest;
+use holding::Area;
+use holding::Found;
+use holding::Residue;
+use holding::Sub;
+use holding_look::Looked;
+use refusals::Refusal;
+use refusals::Verdict;
+use step_outcome::Outcome;
+use step_outcome::Report;
+
+fn verdict(number: u16, sub: u8, year: u16, found: Found, area: Area) -> Verdict
+    ensures { λ r. ⌜ r ≡ smallest (clearCases number sub year found area) ⌝ }
+{
+    let stand = holding::find_sub(area, sub);
+    let forest = holding_look::sub_at(area, stand).forest;
+    let v = refusals::weigh(
+        Verdict::Clear,
+        !(ranges::is_area(number) & ranges::is_sub(sub)),
+        Refusal::AreaOrSubNumber,
+    );
+    let v = refusals::weigh(v, !ranges::is_year(year), Refusal::YearRange);
+    let v = step_outcome::weigh_area(v, found, area);
+    let v = refusals::weigh(v, !holding_look::is_known(stand), Refusal::SubUnknown);
+    let v = refusals::weigh(v, ranges::is_bare(forest), Refusal::ClearingBareLand);
+    refusals::weigh(
+        v,
+        (year < area.open_year) | (year < area.latest),
+        Refusal::YearBefore,
+    )
+}
+
+fn cleared_sub(sub: Sub, year: u16) -> Sub
+    ensures { λ r. ⌜ r ≡ clearedSub sub year ⌝ }
+{
+    let tenths = sub.tenths;
+    let forest = sub.forest;
+    let age = ranges::years_from(sub.planted, year);
+    Sub {
+        number: sub.number,
+        tenths,
+        forest: Forest::Bare,
+        planted: 0,
+        residue: Residue { forest, age, year },
+    }
+}
+
+fn cleared_area(area: Area, sub: u8, year: u16) -> Area
+    ensures { λ r. ⌜ r ≡ clearedArea area sub year ⌝ }
+{
+    let stand = holding::find_sub(area, sub);
+    let before = holding_look::sub_at(area, stand);
+    holding_look::with_sub(area, stand, cleared_sub(before, year), year)
+}
+
+pub fn clear(looked: Looked, number: u16, sub: u8, year: u16) -> Outcome
+    ensures { λ r. ⌜ r ≡ cleared looked number sub year ⌝ }
+{
+    let found = looked.found;
+    let area = looked.area;
+    let v = verdict(number, sub, year, found, area);
+    match v {
+        Verdict::Turned(refusal) => step_outcome::turned(refusal),
+        Verdict::Clear => Outcome {
+            verdict: Verdict::Clear,
+            report: Report::Nothing,
+            place: found,
+            count: looked.count,
+            area: cleared_area(area, sub, year),
+        },
+    }
+}

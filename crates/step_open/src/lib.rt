@@ -1,0 +1,49 @@
+// A opens an accounting area.
+ghost use mathlib.Core.Path.{_≡_};
+ghost use Rattle.refusals.specs.Refusals.{smallest};
+ghost use Rattle.step_open.specs.Opening.{openCases, opened};
+use holding::Found;
+use holding_look::Looked;
+use refusals::Refusal;
+use refusals::Verdict;
+use step_outcome::Outcome;
+use step_outcome::Report;
+
+fn verdict(looked: Looked, number: u16, opening: u16) -> Verdict
+    ensures { λ r. ⌜ r ≡ smallest (openCases looked number opening) ⌝ }
+{
+    let found = looked.found;
+    let area = looked.area;
+    let v = refusals::weigh(
+        Verdict::Clear,
+        !ranges::is_area(number),
+        Refusal::AreaOrSubNumber,
+    );
+    let v = refusals::weigh(v, !ranges::is_year(opening), Refusal::YearRange);
+    let v = step_outcome::weigh_carried(v, found, area);
+    let v = refusals::weigh(v, holding_look::is_known(found), Refusal::AreaUsed);
+    refusals::weigh(v, 16 <= looked.count, Refusal::AreasFull)
+}
+
+pub fn open(looked: Looked, number: u16, opening: u16) -> Outcome
+    ensures { λ r. ⌜ r ≡ opened looked number opening ⌝ }
+{
+    let v = verdict(looked, number, opening);
+    match v {
+        Verdict::Turned(refusal) => step_outcome::turned(refusal),
+        Verdict::Clear => {
+            let count = looked.count;
+            let mut area = holding::empty_area();
+            area.number = number;
+            area.opening = opening;
+            area.open_year = opening;
+            Outcome {
+                verdict: Verdict::Clear,
+                report: Report::Nothing,
+                place: Found::At(count),
+                count: count + 1,
+                area,
+            }
+        }
+    }
+}

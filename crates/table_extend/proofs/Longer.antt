@@ -1,0 +1,64 @@
+-- The longer table as it is stored: the table with the column's length entered, then the column's cells.
+use Prim.Native.Nat.{ℕ, _+_, _<_, _≤_}
+use mathlib.Core.Path.{_≡_, sym, ap, _∙_}
+use mathlib.Core.Bool.{true}
+use mathlib.Core.List.{List, _++_, append-assoc}
+use native.Mathlib.Omega.{arith}
+use lib.ListN.{length, set, take, drop, length-set, length-take, length-append, take-append-drop}
+use lib.Seq.{sets, set-append-left}
+use Rattle.laws.proofs.Lists.{and-left}
+use Rattle.laws.proofs.Stores.{stored-in-front, stored-behind}
+use Rattle.refusals.specs.declared.Refusal.the-variants.{TableColumn, OutputShort}
+use Rattle.refusals.specs.declared.Verdict.the-variants.{Clear}
+use Rattle.refusals.specs.Refusals.{weighAll, smallest}
+use Rattle.refusals.proofs.Laws.{clear-before, clear-last}
+use borrow.Author.Tests.{leb-true, leb-false, ltb-false, not-false}
+use Rattle.table.specs.Participant.{hasColumns}
+use Rattle.table_extend.specs.Extension.{longer, extensible}
+
+module _ (table : List ℕ) (column : ℕ) (cells : List ℕ) (h : column < 10) (whole : 10 ≤ length table) where
+  longer-is : longer table column cells ≡ set table column (length cells) ++ cells
+  unfolding longer
+  longer-is =
+      sym (append-assoc (set (take 10 table) column (length cells)) (drop 10 table) cells)
+      ∙ ap (λ (l : List ℕ). l ++ cells)
+      (sym (set-append-left (take 10 table) (drop 10 table) column (length cells) (simp length-take (omega arith)))
+      ∙ ap (λ (l : List ℕ). set l column (length cells)) (take-append-drop 10 table))
+
+  pub longer-length : length (longer table column cells) ≡ length table + length cells
+  longer-length = rw longer-is (simp (length-append, length-set))
+
+  pub longer-stored : (out : List ℕ) → length table + length cells ≤ length out
+      → sets (set (sets out 0 table) column (length cells)) (length table) cells
+      ≡ longer table column cells ++ drop (length (longer table column cells)) out
+  longer-stored out room =
+      rw (longer-length, longer-is, stored-in-front table out (omega arith), set-append-left table (drop (length table) out) column (length cells) (omega arith))
+      (stored-behind (set table column (length cells)) cells out (length table) (length-set table column (length cells)) room)
+
+-- a table has its ten lengths
+columns-ten : (table : List ℕ) → hasColumns table ≡ true → 10 ≤ length table
+unfolding hasColumns
+columns-ten table e = leb-true _ _ (and-left _ _ (and-left _ _ (and-left _ _ e)))
+
+-- what a clear verdict says
+pub record Extensible (table : List ℕ) (column : ℕ) (cells : List ℕ) (room : ℕ) : Type 0 where
+  pub whole : 10 ≤ length table
+  pub in-range : column < 10
+  pub short : length cells ≤ 101
+  pub room-for : length table + length cells ≤ room
+
+pub clear-extensible : (table : List ℕ) (column : ℕ) (cells : List ℕ) (room : ℕ) → extensible table column cells room ≡ Clear → Extensible table column cells room
+unfolding extensible smallest weighAll
+clear-extensible table column cells room e =
+    let six = clear-before _ _ OutputShort e in
+    let five = clear-before _ _ TableColumn six in
+    let four = clear-before _ _ TableColumn five in
+    let three = clear-before _ _ TableColumn four in
+    let two = clear-before _ _ TableColumn three in
+    let one = clear-before _ _ TableColumn two in
+    record {
+      whole = columns-ten table (not-false _ (clear-last Clear _ TableColumn one));
+      in-range = leb-false _ _ (clear-last _ _ TableColumn two);
+      short = ltb-false _ _ (clear-last _ _ TableColumn four);
+      room-for = ltb-false _ _ (clear-last _ _ OutputShort e);
+    }

@@ -1,0 +1,40 @@
+-- `table_extend::judge` meets its contract, case by case.
+use Rattle.refusals.specs.Refusals.{smallest, weighAll}
+use Rattle.table_extend.specs.Extension.{extensible}
+use borrow.Author.Needs.{needs}
+use Rattle.table_extend.proofs.judge.Statement.{statement}
+use Rattle.table_extend.proofs.judge.Tie as tie
+
+returns : tie.Need-returns
+unfolding extensible smallest weighAll
+returns c =
+    simp (
+      c .weigh7 .ensures,
+      c .before .weigh6 .ensures,
+      c .before .before .is-free .ensures,
+      c .before .before .before .weigh5 .ensures,
+      c .before .before .before .before .each-at-most .ensures,
+      c .before .before .before .before .before .weigh4 .ensures,
+      c .before .before .before .before .before .before .weigh3 .ensures,
+      c .before .before .before .before .before .before .before .weigh2 .ensures,
+      c .before .before .before .before .before .before .before .before .weigh .ensures,
+      c .before .before .before .before .before .before .before .before .before .has-columns .ensures,
+    )
+
+pub judge-spec : {M : Type 1} → statement M
+judge-spec =
+    tie.close
+    (tie.spec
+    (λ c κs. search needs)
+    (λ c κs. search needs)
+    (λ c κs. search needs)
+    (λ c κs. search needs)
+    (λ c. search needs)
+    (λ c κs. search needs)
+    (λ c κs. search needs)
+    (λ c κs. search needs)
+    (λ c κs. search needs)
+    (λ c κs. search needs)
+    (λ c. search needs)
+    (λ c κs. search needs)
+    returns)

@@ -1,0 +1,81 @@
+-- Adding a sub-area gives the area one more, under a number that none of it bears, with trees planted by the opening and no residue; its stock is
+-- within what one more sub-area allows.
+use Prim.Native.Nat.{ℕ, _+_, _*_, _≤_}
+use mathlib.Core.Bool.{true, false, _&&_}
+use mathlib.Core.Path.{_≡_, refl}
+use mathlib.Core.List.{List}
+use native.Mathlib.Omega.{arith}
+use borrow.Author.Tests.{not-false, leb-false, ltb-false}
+use Rattle.laws.proofs.Lists.{and-right}
+use Rattle.refusals.specs.declared.Verdict.the-variants.{Clear}
+use Rattle.refusals.specs.Refusals.{smallest}
+use Rattle.units.specs.declared.Tenths.{Tenths}
+use Rattle.forest.specs.declared.Forest.{Forest}
+use Rattle.ranges.specs.Ranges.{isArea, isSub, isLand, isPlanted}
+use Rattle.schedules.specs.Schedules.{schedule6}
+use Rattle.table.specs.Participant.{isTable}
+use Rattle.holding.specs.declared.Sub.{Sub}
+use Rattle.holding.specs.declared.Area.{Area}
+use Rattle.holding.specs.declared.Found.{Found}
+use Rattle.holding.specs.declared.Holding.{Holding}
+use Rattle.holding.specs.Holding.{mostSubs, noResidue}
+use Rattle.holding.specs.Find.{findSub}
+use Rattle.holding_look.specs.Standing.{known, lookedUp}
+use Rattle.statement_carried.specs.Carried.{stockForSub}
+use Rattle.step_outcome.specs.Outcomes.{areaCases, placed}
+use Rattle.stocks.specs.Stocks.{subStock}
+use Rattle.step_add.specs.Adding.{newSub, addCases, addedArea, added}
+use Rattle.theorem_keeping.proofs.Tests.{clash}
+use Rattle.theorem_keeping.proofs.Within.{land-within}
+use Rattle.theorem_keeping.proofs.Register.{unknown, register-more}
+use Rattle.theorem_keeping.proofs.Subs.{ResidueKept, SubKept}
+use Rattle.theorem_keeping.proofs.Stocks.{sub-at-most}
+use Rattle.theorem_keeping.proofs.Areas.{AreaKept, AreasKept}
+use Rattle.theorem_keeping.proofs.Answers.{ruled-out}
+use Rattle.theorem_keeping.proofs.Changes.{Changed, change-keeps}
+
+no-residue : (opening latest : ℕ) → ResidueKept opening latest noResidue
+no-residue opening latest = record { none = λ bare. (refl, refl); left = λ trees. clash trees }
+
+module _ (own : List ℕ) (table : isTable own ≡ true) where
+  added-area : (area : Area) (sub : Sub) → known (findSub area (sub .number)) ≡ false → area .count + 1 ≤ mostSubs → SubKept (area .opening) (area .latest) sub
+      → AreaKept area → AreaKept (addedArea own schedule6 area sub)
+  unfolding addedArea findSub
+  added-area area sub new room good k =
+      let amounts = k .fields .amounts in
+      let before : area .stock .0 ≤ stockForSub * area .count = amounts .bounded in
+      let land = land-within (sub .tenths) (good .land) .1 in
+      let more : subStock own schedule6 sub (area .opening) .0 ≤ stockForSub = sub-at-most own table sub (area .opening) land in
+      record {
+        fields = record {
+          number = k .fields .number;
+          years = k .fields .years;
+          amounts = record { bounded = omega arith; earned = amounts .earned; owned = amounts .owned; settled = amounts .settled };
+        };
+        subs = register-more (k .subs) sub (unknown (findSub area (sub .number)) new) (omega arith) good;
+      }
+
+  module _ (number sub : ℕ) (land : Tenths) (forest : Forest) (planted : ℕ) where
+    added-changes : (found : Found) (area : Area) → smallest (addCases number (newSub sub land forest planted) found area) ≡ Clear
+        → Changed found area (addedArea own schedule6 area (newSub sub land forest planted))
+    unfolding addCases areaCases addedArea
+    added-changes found area e =
+        let out = ruled-out (addCases number (newSub sub land forest planted) found area) e in
+        let room : area .count + 1 ≤ mostSubs = omega (arith, leb-false mostSubs (area .count) (out 7)) in
+        let by-opening : planted ≤ area .opening = ltb-false (area .opening) planted (out 9) in
+        let good : SubKept (area .opening) (area .latest) (newSub sub land forest planted) = record {
+          number = and-right (isArea number) (isSub sub) (not-false (isArea number && isSub sub) (out 0));
+          land = not-false (isLand land) (out 1);
+          trees = not-false (isPlanted forest planted) (out 2);
+          planted = omega arith;
+          residue = no-residue (area .opening) (area .latest);
+        } in
+        record {
+          stands = not-false (known found) (out 4);
+          number = refl;
+          keeps = added-area area (newSub sub land forest planted) (out 6) room good;
+        }
+
+    pub added-keeps : (holding : Holding) → AreasKept holding → AreasKept (placed holding (added own schedule6 (lookedUp holding number) number (newSub sub land forest planted)))
+    unfolding added
+    added-keeps holding kept = change-keeps holding kept number _ _ _ (added-changes _ _)

@@ -1,0 +1,63 @@
+-- A property of each element, read at a place and kept by a store or by one element more; the test `every` is such a property; and `distinct`,
+-- which looks at numbers alone, is kept where they stay.
+use Prim.Native.Nat.{ℕ, zero, suc, _<_}
+use mathlib.Core.Bool.{Bool, true, _||_}
+use mathlib.Core.Path.{_≡_, refl, sym, ap, _∙_}
+use mathlib.Core.List.{List, [], _∷_, _++_, map}
+use native.Mathlib.Omega.{arith}
+use lib.Dec.{eqb}
+use lib.ListN.{length, getD, set}
+use Rattle.laws.specs.Elements.{some, every, distinct}
+use Rattle.laws.proofs.Lists.{and-left, and-right, both}
+use Rattle.theorem_keeping.specs.Tidy.{Each}
+
+module _ {A : Type 0} (P : A → Type 0) where
+  pub each-at : (l : List A) (i : ℕ) (d : A) → i < length l → Each P l → P (getD l i d)
+  unfolding Each
+  each-at [] i d h p = absurd (omega arith)
+  each-at (x ∷ l) zero d h p = p .0
+  each-at (x ∷ l) (suc i) d h p = each-at l i d (omega arith) (p .1)
+
+  pub each-set : (l : List A) (i : ℕ) (a : A) → P a → Each P l → Each P (set l i a)
+  unfolding Each
+  each-set [] i a q p = p
+  each-set (x ∷ l) zero a q p = (q, p .1)
+  each-set (x ∷ l) (suc i) a q p = (p .0, each-set l i a q (p .1))
+
+  pub each-more : (l : List A) (a : A) → P a → Each P l → Each P (l ++ (a ∷ []))
+  unfolding Each
+  each-more [] a q p = (q, tt)
+  each-more (x ∷ l) a q p = (p .0, each-more l a q (p .1))
+
+pub each-both : {A : Type 0} (P Q R : A → Type 0) → ((a : A) → P a → Q a → R a) → (l : List A) → Each P l → Each Q l → Each R l
+unfolding Each
+each-both P Q R f [] p q = tt
+each-both P Q R f (a ∷ l) p q = (f a (p .0) (q .0), each-both P Q R f l (p .1) (q .1))
+
+pub each-so : {A : Type 0} (P Q : A → Type 0) → ((a : A) → P a → Q a) → (l : List A) → Each P l → Each Q l
+each-so P Q f l p = each-both P P Q (λ a x y. f a x) l p p
+
+module _ {A : Type 0} (test : A → Bool) where
+  pub every-each : (l : List A) → every test l ≡ true → Each (λ a. test a ≡ true) l
+  unfolding every Each
+  every-each [] e = tt
+  every-each (a ∷ l) e = (and-left (test a) (every test l) e, every-each l (and-right (test a) (every test l) e))
+
+  pub each-every : (l : List A) → Each (λ a. test a ≡ true) l → every test l ≡ true
+  unfolding every Each
+  each-every [] p = refl
+  each-every (a ∷ l) p = both _ _ (p .0) (each-every l (p .1))
+
+module _ {A : Type 0} (numberOf : A → ℕ) where
+  some-of-numbers : (n : ℕ) (l : List A) → some (λ a. eqb (numberOf a) n) l ≡ some (λ k. eqb k n) (map numberOf l)
+  unfolding some
+  some-of-numbers n [] = refl
+  some-of-numbers n (a ∷ l) = ap (_||_ (eqb (numberOf a) n)) (some-of-numbers n l)
+
+  distinct-of-numbers : (l : List A) → distinct numberOf l ≡ distinct (λ k. k) (map numberOf l)
+  unfolding distinct
+  distinct-of-numbers [] = refl
+  distinct-of-numbers (a ∷ l) = rw (some-of-numbers (numberOf a) l, distinct-of-numbers l)
+
+  pub distinct-same : (l m : List A) → map numberOf m ≡ map numberOf l → distinct numberOf l ≡ true → distinct numberOf m ≡ true
+  distinct-same l m e h = distinct-of-numbers m ∙ ap (distinct (λ k. k)) e ∙ sym (distinct-of-numbers l) ∙ h

@@ -1,0 +1,99 @@
+-- The bounds of stocks and changes. A rate is at most 30,000 and a share at most 10, so a sub-area of at most 100,000 tenths has trees of at most
+-- 3×10^10 kg and residue of at most that; sixteen have at most 96×10^10 kg, and between two such stocks lie at most 960,000,000 tonnes.
+use Prim.Native.Nat.{ℕ, _+_, _-_, _*_, _≤_}
+use mathlib.Core.Bool.{Bool, true, false, cond}
+use mathlib.Core.Path.{_≡_, refl}
+use mathlib.Core.List.{List, [], _∷_}
+use native.Mathlib.Nat.{mul-le-mul, mul-suc}
+use native.Mathlib.Omega.{arith}
+use lib.Dec.{leb}
+use lib.ListN.{length, length-take}
+use Rattle.laws.specs.Elements.{sumBy}
+use Rattle.laws.specs.Lists.{eachAtMost}
+use Rattle.laws.proofs.Lists.{ceiling-at}
+use Rattle.units.specs.declared.Kilograms.{Kilograms}
+use Rattle.units.specs.declared.Change.{Change}
+use Rattle.units.specs.declared.Change.the-variants.{Gain, Loss}
+use Rattle.units.specs.Units.{treesOf, residueOf}
+use Rattle.units.specs.Tonnes.{tonnes, changeBetween}
+use Rattle.ranges.specs.Ranges.{mostLand}
+use Rattle.schedules.specs.declared.Kind.the-variants.{Stock, Residue}
+use Rattle.schedules.specs.Schedules.{cellCeiling, schedule6}
+use Rattle.table.specs.Participant.{isTable}
+use Rattle.rates.specs.Decay.{shares, shareAfter}
+use Rattle.rates.proofs.Ceiling.{six-at-most}
+use Rattle.holding.specs.declared.Sub.{Sub}
+use Rattle.holding.specs.declared.Area.{Area}
+use Rattle.holding.specs.Holding.{mostSubs, subsOf}
+use Rattle.statement_carried.specs.Carried.{stockForSub}
+use Rattle.step_file.specs.Filing.{changeOf}
+use Rattle.stocks.specs.Stocks.{treesOn, residueOn, subStock, areaStock}
+use Rattle.theorem_keeping.specs.Tidy.{Each}
+use Rattle.theorem_keeping.proofs.Within.{land-within}
+use Rattle.theorem_keeping.proofs.Lists.{each-so}
+use Rattle.theorem_keeping.proofs.Areas.{AreaKept}
+
+-- a product of three numbers, each with its bound
+product-at-most : (a b c l m n : ℕ) → a ≤ l → b ≤ m → c ≤ n → a * b * c ≤ l * m * n
+product-at-most a b c l m n p q r = mul-le-mul (mul-le-mul p q) r
+
+share-at-most : (years : ℕ) → shareAfter years ≤ 10
+unfolding shareAfter eachAtMost
+share-at-most years = ceiling-at 10 shares refl years
+
+sum-at-most : {A : Type 0} (f : A → ℕ) (m : ℕ) (l : List A) → Each (λ a. f a ≤ m) l → sumBy f l ≤ m * length l
+unfolding sumBy Each
+sum-at-most f m [] p = omega arith
+sum-at-most f m (a ∷ l) p = let h : f a ≤ m = p .0 in omega (arith, mul-suc m (length l), sum-at-most f m l (p .1))
+
+module _ (own : List ℕ) (table : isTable own ≡ true) where
+  module _ (sub : Sub) (y : ℕ) (land : sub .tenths .0 ≤ mostLand) where
+    pub trees-at-most : treesOn own schedule6 sub y .0 ≤ 30000000000
+    unfolding treesOn treesOf
+    trees-at-most =
+        let rate = six-at-most own Stock (sub .forest) (y - sub .planted) table in
+        omega (arith, product-at-most _ _ 10 mostLand cellCeiling 10 land rate (omega arith))
+
+    pub residue-at-most : residueOn own schedule6 sub y .0 ≤ 30000000000
+    unfolding residueOn residueOf
+    residue-at-most =
+        let rate = six-at-most own Residue (sub .residue .forest) (sub .residue .age) table in
+        omega (arith, product-at-most _ _ _ mostLand cellCeiling 10 land rate (share-at-most (y - sub .residue .year)))
+
+    pub sub-at-most : subStock own schedule6 sub y .0 ≤ stockForSub
+    unfolding subStock
+    sub-at-most = omega (arith, trees-at-most, residue-at-most)
+
+  pub area-at-most : (area : Area) (y : ℕ) → Each (λ sub. sub .tenths .0 ≤ mostLand) (subsOf area)
+      → areaStock own schedule6 area y .0 ≤ stockForSub * length (subsOf area)
+  unfolding areaStock
+  area-at-most area y p =
+      sum-at-most (λ sub. subStock own schedule6 sub y .0) stockForSub (subsOf area) (each-so _ _ (λ sub. sub-at-most sub y) (subsOf area) p)
+
+-- the size of a change, in tonnes
+abbrev pub sizeOf : Change → ℕ
+sizeOf (Gain tonnes) = tonnes
+sizeOf (Loss tonnes) = tonnes
+
+pub change-at-most : (opening closing : Kilograms) → opening .0 ≤ stockForSub * mostSubs → closing .0 ≤ stockForSub * mostSubs
+    → sizeOf (changeBetween opening closing) ≤ 960000000
+unfolding changeBetween tonnes
+change-at-most opening closing p q = go (leb (opening .0) (closing .0))
+  where
+    go : (t : Bool) → sizeOf (cond t (Gain (tonnes (closing .0 - opening .0))) (Loss (tonnes (opening .0 - closing .0)))) ≤ 960000000
+    go true = omega arith
+    go false = omega arith
+
+-- of an area that is kept
+module _ (own : List ℕ) (table : isTable own ≡ true) (area : Area) (k : AreaKept area) where
+  pub stock-at-most : (y : ℕ) → areaStock own schedule6 area y .0 ≤ stockForSub * area .count
+  stock-at-most y =
+      let lands = each-so _ _ (λ sub s. land-within (sub .tenths) (s .land) .1) (subsOf area) (k .subs .each) in
+      omega (arith, area-at-most own table area y lands, length-take (area .count) (area .subs))
+
+  pub return-at-most : (last : ℕ) → sizeOf (changeOf own schedule6 area last) ≤ 960000000
+  unfolding changeOf
+  return-at-most last =
+      let room : area .count ≤ mostSubs = k .subs .room in
+      change-at-most (area .stock) (areaStock own schedule6 area (last + 1))
+      (omega (arith, k .fields .amounts .bounded)) (omega (arith, stock-at-most (last + 1)))
