@@ -1,7 +1,8 @@
 #!/usr/bin/env python3
-"""Checks that every file and name that docs/PROMISES.md cites exists, and that every public function has a contract.
+"""Checks that every file and name that docs/PROMISES.md and docs/GLOSSARY.md cite exists, and that every public function has a contract.
 
-A row has four cells: the sentence, what states it, the edits that the prover refuses, and the tests.
+A sentence of the promises is quoted on a line of its own, `> sentence`, and has three parts below it, each on its line: `- **stated by**: ..`,
+`- **refused edits**: ..` and `- **tests**: ..`, a dash where there is none. A word of the glossary is a line, `- **word**: ..`.
 
   `name` (crate/specs/File)   a definition of that file, `name` (crate/proofs/File) a theorem; a folder may stand for its files
   `crate::name`               a function, struct, enum or constant of the crate's code; `Type::name` a method
@@ -17,7 +18,9 @@ import sys
 ROOT = pathlib.Path(__file__).resolve().parent.parent
 CRATES = ROOT / "crates"
 PROMISES = ROOT / "docs/PROMISES.md"
-HEAD = ["sentence", "stated by", "refused edits", "tests"]
+GLOSSARY = ROOT / "docs/GLOSSARY.md"
+PARTS = ["stated by", "refused edits", "tests"]
+PART = re.compile(r"- \*\*([^*]+)\*\*: *(.*)")
 CITED = re.compile(r"`([^`]+)`|\(((?:[a-z_]+)/(?:specs|proofs)(?:/\w+)?)\)")
 WORDS = {"requires", "ensures"}
 
@@ -63,10 +66,10 @@ def check_named(name):
     check_test(owner, last) if "." in owner else check_code(owner, last)
 
 
-def check_cell(cell):
+def check_part(part):
     """Counts the names; a definition or theorem belongs to the next place behind it."""
     waiting, count = [], 0
-    for name, place in CITED.findall(cell):
+    for name, place in CITED.findall(part):
         if place:
             text = read_place(place)
             missing = [one for one in waiting if not has_definition(text, one)]
@@ -86,19 +89,54 @@ def check_cell(cell):
     return count
 
 
-def check_edits(cell, cited):
-    for label in re.findall(r"`([^`]+)`", cell):
+def check_edits(part, cited):
+    for label in re.findall(r"`([^`]+)`", part):
         crate, _, name = label.partition("/")
         if not (CRATES / crate / "must-fail" / f"{name}.edit").is_file():
             raise LookupError(f"no must-fail edit {label}")
         cited.add(label)
 
 
-def check_row(cells, cited):
-    if len(cells) != len(HEAD) or not all(cells):
-        raise LookupError(f"a row has {len(HEAD)} cells, and - where there is nothing")
-    check_edits(cells[2], cited)
-    return check_cell(cells[1]) + check_cell(cells[3])
+def read_sentences(text):
+    """Each sentence below the first section's heading: its line's number, itself, and its parts by name, in order."""
+    sentences, began = [], False
+    for number, line in enumerate(text.splitlines(), 1):
+        began = began or line.startswith("## ")
+        if not began or not line or line.startswith("## "):
+            continue
+        part = PART.fullmatch(line)
+        if line.startswith("> "):
+            sentences.append((number, line[2:].strip(), []))
+        elif part and sentences:
+            sentences[-1][2].append(part.groups())
+        else:
+            sentences.append((number, "", []))
+    return sentences
+
+
+def check_sentence(sentence, parts, cited):
+    if not sentence:
+        raise LookupError("this is neither a sentence nor a part of one")
+    if [name for name, _ in parts] != PARTS or not all(words for _, words in parts):
+        raise LookupError(f"a sentence has the parts {', '.join(PARTS)}, and - where there is nothing")
+    stated, edits, tests = (words for _, words in parts)
+    check_edits(edits, cited)
+    return check_part(stated) + check_part(tests)
+
+
+def misplaced_words():
+    """The lines of the glossary that do not say where their words are defined, or say it wrongly."""
+    found, count = [], 0
+    for number, line in enumerate(GLOSSARY.read_text().splitlines(), 1):
+        if not line.startswith("- "):
+            continue
+        count += 1
+        try:
+            if check_part(line) == 0:
+                raise LookupError("no name is cited")
+        except LookupError as reason:
+            found.append(f"docs/GLOSSARY.md:{number}: {reason}")
+    return found, count
 
 
 def uncontracted():
@@ -113,24 +151,23 @@ def uncontracted():
 
 
 def main():
-    rows, names, cited, wrong = 0, 0, set(), []
-    for number, line in enumerate(PROMISES.read_text().splitlines(), 1):
-        cells = [cell.strip() for cell in line.strip("|").split("|")]
-        if not line.startswith("|") or cells == HEAD or set(line) <= set("|-"):
-            continue
+    names, cited, wrong = 0, set(), []
+    sentences = read_sentences(PROMISES.read_text())
+    for number, sentence, parts in sentences:
         try:
-            names += check_row(cells, cited)
-            rows += 1
+            names += check_sentence(sentence, parts, cited)
         except LookupError as reason:
             wrong.append(f"docs/PROMISES.md:{number}: {reason}")
+    misplaced, words = misplaced_words()
     bare, functions = uncontracted()
-    for reason in wrong + bare:
+    for reason in wrong + misplaced + bare:
         print(reason)
-    if wrong or bare:
+    if wrong or misplaced or bare:
         sys.exit(1)
     edits = len(list(CRATES.glob("*/must-fail/*.edit")))
-    print(f"the promises' {rows} rows cite {names} names and {len(cited)} must-fail edits, and each is there")
-    print(f"no row cites the other {edits - len(cited)} must-fail edits; each of {functions} public functions has a contract and asks nothing")
+    print(f"the promises' {len(sentences)} sentences cite {names} names and {len(cited)} must-fail edits, and each is there")
+    print(f"no sentence cites the other {edits - len(cited)} must-fail edits; each of {functions} public functions has a contract and asks nothing")
+    print(f"what the glossary's {words} lines cite is there")
 
 
 main()

@@ -74,7 +74,7 @@ def by_type(name, kind, columns, start):
     of = dict(zip(["B"] + TYPES, places(columns, start, lambda f: " " * (12 if f.startswith("P") else 8))))
     regions = "".join(f"            Region::{region} => {of[f'P{n}']},\n" for n, region in enumerate(REGIONS, 1))
     others = "".join(f"        Forest::{forest} => {of[letter]},\n" for letter, forest in OTHERS)
-    return (f"pub fn {name}(forest: Forest) -> Place\n    ensures {{ λ r. ⌜ r ≡ placeSix {kind} forest ⌝ }}\n{{\n"
+    return (f"pub fn {name}(forest: Forest) -> Place\n    ensures {{ λ r. ⌜ r ≡ placeSix Kind.{kind} forest ⌝ }}\n{{\n"
             f"    match forest {{\n        Forest::Bare => {of['B']},\n        Forest::Radiata(region) => match region {{\n{regions}        }},\n"
             f"{others}    }}\n}}\n")
 
@@ -82,8 +82,8 @@ def by_type(name, kind, columns, start):
 def code(four, stock, residue):
     return "\n".join([
         f"// {SOURCE}\n// The cells of Schedules 4 and 6 in tenths of a tonne per hectare, column after column, and the columns' places.\n"
-        "ghost use mathlib.Core.Path.{_≡_};\nghost use Rattle.schedules.specs.declared.Kind.the-variants.{Stock, Residue};\n"
-        "ghost use Rattle.schedules.specs.Schedules.{placeSix};\nuse super::Place;\nuse forest::Forest;\nuse forest::Region;\n",
+        "ghost use mathlib.Core.Path.{_≡_};\n"
+        "ghost use Rattle.schedules.specs.{Kind, placeSix};\nuse super::Place;\nuse forest::Forest;\nuse forest::Region;\n",
         constant("SCHEDULE_FOUR", "u16", cells(four)),
         constant("SCHEDULE_SIX", "u16", cells(stock) + cells(residue)),
         constant("PLACES_FOUR", "Place", places(four, 0, lambda _: " " * 4)),
@@ -104,7 +104,7 @@ def definition(name, title, columns):
 def specs(four, stock, residue):
     return "\n".join([
         f"-- {SOURCE}\n-- The columns of Schedules 4 and 6 (002, Appendix 2): the first listed age, then a cell for each age in tenths of a tonne per hectare.",
-        "use mathlib.Core.List.{List, [], _∷_}\nuse Rattle.schedules.specs.Columns.{Column, listed}\n",
+        "use Rattle.laws.specs.{List, [], _∷_}\nuse Rattle.schedules.specs.Columns.{Column, listed}\n",
         definition("stock4", "Schedule 4, pre-1990 forest land: carbon stock", four),
         definition("stock6", "Schedule 6, post-1989 forest land: carbon stock", stock),
         definition("residue6", "Schedule 6, post-1989 forest land: residue of cleared trees", residue),

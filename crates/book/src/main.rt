@@ -4,8 +4,10 @@ use libc::STDIN_FILENO;
 use libc::STDOUT_FILENO;
 
 // A byte more than the longest book has, to see that a book is longer.
-fn room_for_book() -> [u8; 65537] {
-    [0u8; 65537]
+const ROOM_FOR_BOOK: usize = book_listing::LONGEST_BOOK + 1;
+
+fn room_for_book() -> [u8; ROOM_FOR_BOOK] {
+    [0u8; ROOM_FOR_BOOK]
 }
 
 fn room_for_listing() -> [u8; ROOM] {

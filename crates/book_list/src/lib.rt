@@ -1,15 +1,21 @@
 // Lists a book into a lent buffer.
 ghost use mathlib.Core.Path.{_≡_};
 ghost use lib.ListN.{length};
-ghost use Rattle.book_listing.specs.Listing.{listingOf};
-ghost use Rattle.refusals.specs.Answers.{written, bufferAfter};
-ghost use Rattle.statement_write.specs.Writable.{writable};
-ghost use Rattle.book_list.specs.Whole.{Whole};
+ghost use Rattle.book_listing.specs.{listingOf};
+ghost use Rattle.refusals.specs.{written, bufferAfter};
+ghost use Rattle.statement_write.specs.{writable};
+ghost use Rattle.book_list.specs.{Whole};
+use book_listing::LONGEST_BOOK;
 use refusals::Refusal;
 use refusals::Written;
 
-// Room for any listing, in bytes.
-pub const ROOM: usize = 720921;
+// What a line prints at most for each of its bytes and for its end, and what E takes at most.
+const MOST_FOR_BYTE: usize = 11;
+
+const MOST_FOR_END: usize = 14;
+
+// Room for any listing, in bytes: a book's last line may lack its end.
+pub const ROOM: usize = MOST_FOR_BYTE * (LONGEST_BOOK + 1) + MOST_FOR_END;
 
 // Writes the listing to the front of `out`, in which there is room for any listing: how many bytes it has.
 pub fn list_whole(book: &[u8], out: &mut [u8; ROOM]) -> usize

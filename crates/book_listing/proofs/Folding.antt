@@ -1,16 +1,8 @@
 -- One turn of the fold: a line prints its own, one more is accepted or refused, and the lines behind it follow.
-use Prim.Native.Nat.{ℕ, _+_, _-_, _≤_, _<_}
-use mathlib.Core.Path.{_≡_, refl, sym, ap, _∙_}
-use mathlib.Core.List.{List, _++_}
-use native.Mathlib.Omega.{arith}
-use lib.ListN.{length, take, drop}
-use borrow.Author.Tests.{lt-ltb, le-ltb}
-use Rattle.refusals.specs.declared.Refusal.the-variants.{Form}
-use Rattle.refusals.specs.declared.Verdict.{Verdict}
-use Rattle.refusals.specs.declared.Verdict.the-variants.{Clear as Accepted, Turned as Refused}
-use Rattle.book_print.specs.Printing.{refusalText, endText}
-use Rattle.book_listing.specs.Lines.{linesOf, lineWidth}
-use Rattle.book_listing.specs.Listing.{lineTaken, ifAccepted, Run, start, next, printed, listFrom, longestBook, listingOf}
+use Rattle.laws.proofs.{ℕ, _+_, _-_, _≤_, _<_, _≡_, refl, sym, ap, _∙_, List, _++_, arith, length, take, drop, lt-ltb, le-ltb}
+use Rattle.refusals.specs.{Verdict, Refusal}
+use Rattle.book_print.specs.{refusalText, endText}
+use Rattle.book_listing.specs.{linesOf, lineWidth, lineTaken, ifAccepted, Run, start, next, printed, listFrom, longestBook, listingOf}
 use Rattle.book_listing.proofs.Lines.{lines-at, lines-none}
 
 pub start-none : start .accepted + start .refused ≡ 0
@@ -18,8 +10,8 @@ unfolding start
 start-none = refl
 
 one-counted : (v : Verdict) (a r : ℕ) → ifAccepted v (a + 1) a + ifAccepted v r (r + 1) ≡ a + r + 1
-one-counted Accepted a r = omega arith
-one-counted (Refused refusal) a r = omega arith
+one-counted Verdict.Accepted a r = omega arith
+one-counted (Verdict.Refused refusal) a r = omega arith
 
 -- a line is accepted or refused
 pub next-counts : (run : Run) (line : List ℕ) → next run line .accepted + next run line .refused ≡ run .accepted + run .refused + 1
@@ -40,7 +32,7 @@ module _ (run : Run) (book : List ℕ) (i : ℕ) where
   unfolding listFrom
   from-none h = sym (ap (listFrom run) (lines-none book i h))
 
-pub listing-over : (book : List ℕ) → longestBook < length book → refusalText 0 Form ++ endText 0 1 ≡ listingOf book
+pub listing-over : (book : List ℕ) → longestBook < length book → refusalText 0 Refusal.Form ++ endText 0 1 ≡ listingOf book
 unfolding listingOf
 listing-over book h = simp (lt-ltb _ _ h)
 

@@ -1,16 +1,7 @@
 -- A scan for a line's end finds the first line, and the lines that follow begin behind its byte 10.
-use Prim.Native.Nat.{ℕ, suc, _+_, _-_, _≤_, _<_}
-use mathlib.Core.Path.{_≡_, refl, ap, _∙_}
-use mathlib.Core.Bool.{Bool, true, false, cond}
-use mathlib.Core.List.{List, [], _∷_}
-use native.Mathlib.Omega.{arith}
-use native.Mathlib.Numerals.{add-one}
-use lib.Dec.{eqb}
-use lib.ListN.{length, getD, take, drop, length-drop, drop-of-length-le}
-use lib.Seq.{drop-cons, drop-drop}
-use borrow.Author.Tests.{eq-eqb, ne-eqb}
-use Rattle.text.specs.Fields.{extend}
-use Rattle.book_listing.specs.Lines.{linesOf, lineWidth}
+use Rattle.laws.proofs.{ℕ, suc, _+_, _-_, _≤_, _<_, _≡_, refl, ap, _∙_, Bool, true, false, cond, List, [], _∷_, arith, add-one, eqb, length, getD, take, drop, length-drop, drop-of-length-le, drop-cons, drop-drop, eq-eqb, ne-eqb}
+use Rattle.text.specs.{extend}
+use Rattle.book_listing.specs.{linesOf, lineWidth}
 
 module _ (s : List ℕ) (i : ℕ) where
   pub end-later : i < length s → (getD s i 0 ≡ 10 → ⊥) → i + 1 + lineWidth (drop (i + 1) s) ≡ i + lineWidth (drop i s)

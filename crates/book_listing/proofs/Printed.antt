@@ -1,18 +1,15 @@
 -- What is put for a line is what is printed for it, by its verdict.
-use Prim.Native.Nat.{ℕ}
-use mathlib.Core.Path.{_≡_, sym, ap}
-use Rattle.refusals.specs.declared.Refusal.{Refusal}
-use Rattle.refusals.specs.declared.Verdict.{Verdict}
-use Rattle.refusals.specs.declared.Verdict.the-variants.{Clear, Turned}
-use Rattle.step_outcome.specs.declared.Outcome.{Outcome}
-use Rattle.book_print.specs.Printing.{reportText, refusalText}
-use Rattle.book_listing.specs.Listing.{printedFor}
+use Rattle.laws.proofs.{ℕ, _≡_, sym, ap}
+use Rattle.refusals.specs.{Refusal, Verdict}
+use Rattle.step_outcome.specs.{Outcome}
+use Rattle.book_print.specs.{reportText, refusalText}
+use Rattle.book_listing.specs.{printedFor}
 
 module _ (number : ℕ) (outcome : Outcome) where
-  pub accepted-prints : outcome .verdict ≡ Clear → reportText (outcome .report) ≡ printedFor number (outcome .verdict) outcome
+  pub accepted-prints : outcome .verdict ≡ Verdict.Accepted → reportText (outcome .report) ≡ printedFor number (outcome .verdict) outcome
   unfolding printedFor
   accepted-prints e = sym (ap (λ (v : Verdict). printedFor number v outcome) e)
 
-  pub refused-prints : (refusal : Refusal) → outcome .verdict ≡ Turned refusal → refusalText number refusal ≡ printedFor number (outcome .verdict) outcome
+  pub refused-prints : (refusal : Refusal) → outcome .verdict ≡ Verdict.Refused refusal → refusalText number refusal ≡ printedFor number (outcome .verdict) outcome
   unfolding printedFor
   refused-prints refusal e = sym (ap (λ (v : Verdict). printedFor number v outcome) e)

@@ -1,9 +1,6 @@
 -- A book's lines: "a line ends with byte 10 (the last may lack it)".
-use Prim.Native.Nat.{ℕ, zero, suc}
-use mathlib.Core.Bool.{cond}
-use mathlib.Core.List.{List, [], _∷_}
-use lib.Dec.{eqb}
-use Rattle.text.specs.Fields.{extend}
+use Rattle.laws.specs.{ℕ, zero, suc, cond, List, [], _∷_, eqb}
+use Rattle.text.specs.{extend}
 
 -- each without its byte 10; a byte 10 at the book's end adds no line
 unfoldable pub linesOf : List ℕ → List (List ℕ)

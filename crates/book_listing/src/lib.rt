@@ -2,11 +2,14 @@
 ghost use mathlib.Core.Path.{_≡_};
 ghost use Prim.Native.Nat.{_+_, _≤_};
 ghost use lib.ListN.{drop};
-ghost use Rattle.statement_field.specs.Put.{Put};
-ghost use Rattle.book_listing.specs.Lines.{lineWidth};
-ghost use Rattle.book_listing.specs.Listing.{ifAccepted, printedFor};
+ghost use Rattle.book_print.specs.{reportWidth};
+ghost use Rattle.statement_field.specs.{Put};
+ghost use Rattle.book_listing.specs.{lineWidth, ifAccepted, printedFor};
 use refusals::Verdict;
 use step_outcome::Outcome;
+
+// The longest book, in bytes.
+pub const LONGEST_BOOK: usize = 65536;
 
 // Where the line that starts at a place ends: before its byte 10, or at the book's end.
 pub fn end_of(book: &[u8], start: usize) -> usize
@@ -24,13 +27,13 @@ pub fn end_of(book: &[u8], start: usize) -> usize
 
 // Puts what is printed for a line, by its number in the book; the answer is the place after what was put.
 pub fn put_line(out: &mut [u8], at: usize, number: u64, outcome: Outcome) -> usize
-    ensures { λ r. ⌜ Put 105 (now (out .entry)) at (printedFor number (outcome .verdict) outcome) (now (out .exit)) r ⌝ }
+    ensures { λ r. ⌜ Put reportWidth (now (out .entry)) at (printedFor number (outcome .verdict) outcome) (now (out .exit)) r ⌝ }
 {
     let verdict = outcome.verdict;
     let report = outcome.report;
     match verdict {
-        Verdict::Clear => book_print::put_report(out, at, report),
-        Verdict::Turned(refusal) => book_print::put_refusal(out, at, number, refusal),
+        Verdict::Accepted => book_print::put_report(out, at, report),
+        Verdict::Refused(refusal) => book_print::put_refusal(out, at, number, refusal),
     }
 }
 
@@ -39,7 +42,7 @@ pub fn counted(verdict: Verdict) -> u64
     ensures { λ r. ⌜ (r ≡ ifAccepted verdict 1 0) × (r ≤ 1) ⌝ }
 {
     match verdict {
-        Verdict::Clear => 1,
-        Verdict::Turned(_) => 0,
+        Verdict::Accepted => 1,
+        Verdict::Refused(_) => 0,
     }
 }

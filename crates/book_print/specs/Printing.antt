@@ -1,40 +1,34 @@
 -- What `book` prints: "R: area, first and last year, change, received, due, balance; X: line, refusal; W: area, due; E: lines accepted, refused".
 -- A comma is byte 44, a minus sign byte 45; every line ends with byte 10.
-use Prim.Native.Nat.{ℕ}
-use mathlib.Core.Bool.{cond}
-use mathlib.Core.List.{List, [], _∷_}
-use lib.Dec.{eqb}
-use Rattle.units.specs.declared.Change.{Change}
-use Rattle.units.specs.declared.Change.the-variants.{Gain, Loss}
-use Rattle.refusals.specs.declared.Refusal.{Refusal}
-use Rattle.refusals.specs.Refusals.{numberOf}
-use Rattle.statement_format.specs.Format.{startText, numberText, joined}
-use Rattle.step_outcome.specs.declared.Report.{Report}
-use Rattle.step_outcome.specs.declared.Report.the-variants.{Nothing, Return, Withdrawal}
+use Rattle.laws.specs.{ℕ, cond, List, [], _∷_, eqb, _+_, _*_}
+use Rattle.units.specs.{Change}
+use Rattle.refusals.specs.{Refusal, numberOf}
+use Rattle.statement_format.specs.{startText, numberText, joined, startWidth, longWidth, shortWidth}
+use Rattle.step_outcome.specs.{Report}
 
 -- the digits of a loss behind a minus sign; a change of 0 t has none
 unfoldable pub lossText : ℕ → List ℕ
 lossText tonnes = cond (eqb tonnes 0) (numberText 0 44) (45 ∷ numberText tonnes 44)
 
 unfoldable pub changeText : Change → List ℕ
-changeText (Gain tonnes) = numberText tonnes 44
-changeText (Loss tonnes) = lossText tonnes
+changeText (Change.Gain tonnes) = numberText tonnes 44
+changeText (Change.Loss tonnes) = lossText tonnes
 
 -- what is printed for an accepted line: R and W lines alone
 unfoldable pub reportText : Report → List ℕ
-reportText Nothing = []
-reportText (Return area first last change received due balance) =
+reportText Report.Nothing = []
+reportText (Report.Return filed) =
     joined
     (startText 82
-    ∷ numberText area 44
-    ∷ numberText first 44
-    ∷ numberText last 44
-    ∷ changeText change
-    ∷ numberText received 44
-    ∷ numberText due 44
-    ∷ numberText balance 10
+    ∷ numberText (filed .area) 44
+    ∷ numberText (filed .first) 44
+    ∷ numberText (filed .last) 44
+    ∷ changeText (filed .change)
+    ∷ numberText (filed .received) 44
+    ∷ numberText (filed .due) 44
+    ∷ numberText (filed .balance) 10
     ∷ [])
-reportText (Withdrawal area due) = joined (startText 87 ∷ numberText area 44 ∷ numberText due 10 ∷ [])
+reportText (Report.Withdrawal area due) = joined (startText 87 ∷ numberText area 44 ∷ numberText due 10 ∷ [])
 
 -- a letter and two numbers
 unfoldable pub pairText : ℕ → ℕ → ℕ → List ℕ
@@ -47,3 +41,30 @@ refusalText line refusal = pairText 88 line (numberOf refusal)
 -- "E: lines accepted, refused"
 unfoldable pub endText : ℕ → ℕ → List ℕ
 endText accepted refused = pairText 69 accepted refused
+
+-- ---- how many bytes they take at most
+
+-- a sign, a number and a comma
+abbrev pub changeWidth : ℕ
+changeWidth = 1 + longWidth
+
+-- R, the area and two years; three numbers of units
+abbrev pub filedYearsWidth : ℕ
+filedYearsWidth = startWidth + 3 * shortWidth
+
+abbrev pub unitsWidth : ℕ
+unitsWidth = 3 * longWidth
+
+-- what is printed for an accepted line: a return's is the longest
+abbrev pub reportWidth : ℕ
+reportWidth = filedYearsWidth + changeWidth + unitsWidth
+
+-- a letter and two numbers, and where the second is a refusal's, of two digits
+abbrev pub pairWidth : ℕ
+pairWidth = startWidth + 2 * longWidth
+
+abbrev pub numberWidth : ℕ
+numberWidth = 3
+
+abbrev pub refusalWidth : ℕ
+refusalWidth = startWidth + longWidth + numberWidth

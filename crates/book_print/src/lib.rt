@@ -1,15 +1,21 @@
 // What is printed of a line and of a book, put into a lent buffer at any place.
 ghost use mathlib.Core.List.{_∷_, []};
-ghost use Rattle.statement_format.specs.Format.{startText, numberText, joined};
-ghost use Rattle.statement_field.specs.Put.{Put};
-ghost use Rattle.book_print.specs.Printing.{lossText, changeText, reportText, pairText, refusalText, endText};
+ghost use Rattle.statement_format.specs.{startText, numberText, joined};
+ghost use Rattle.statement_field.specs.{Put};
+ghost use Rattle.book_print.specs.{lossText, changeText, reportText, pairText, refusalText, endText, changeWidth, filedYearsWidth, unitsWidth, reportWidth, pairWidth, refusalWidth};
 use refusals::Refusal;
+use statement_field::LONG_WIDTH;
+use statement_field::SHORT_WIDTH;
+use statement_field::START_WIDTH;
 use step_outcome::Report;
 use units::Change;
 
+// What is printed for an accepted line, at most, in bytes: a return's is the longest.
+pub const REPORT_WIDTH: usize = START_WIDTH + 3 * SHORT_WIDTH + 1 + 4 * LONG_WIDTH;
+
 // Puts what is said of a loss of tonnes; the answer, here and below, is the place after what was put.
 fn put_loss(out: &mut [u8], at: usize, tonnes: u64) -> usize
-    ensures { λ r. ⌜ Put 22 (now (out .entry)) at (lossText tonnes) (now (out .exit)) r ⌝ }
+    ensures { λ r. ⌜ Put changeWidth (now (out .entry)) at (lossText tonnes) (now (out .exit)) r ⌝ }
 {
     if tonnes == 0 {
         return statement_field::put_field(out, at, 0, 44);
@@ -19,7 +25,7 @@ fn put_loss(out: &mut [u8], at: usize, tonnes: u64) -> usize
 }
 
 fn put_change(out: &mut [u8], at: usize, change: Change) -> usize
-    ensures { λ r. ⌜ Put 22 (now (out .entry)) at (changeText change) (now (out .exit)) r ⌝ }
+    ensures { λ r. ⌜ Put changeWidth (now (out .entry)) at (changeText change) (now (out .exit)) r ⌝ }
 {
     match change {
         Change::Gain(tonnes) => statement_field::put_field(out, at, tonnes, 44),
@@ -29,7 +35,7 @@ fn put_change(out: &mut [u8], at: usize, change: Change) -> usize
 
 // R, the area and the first and last year of a return.
 fn put_years(out: &mut [u8], at: usize, area: u16, first: u16, last: u16) -> usize
-    ensures { λ r. ⌜ Put 20 (now (out .entry)) at (joined (startText 82 ∷ numberText area 44 ∷ numberText first 44 ∷ numberText last 44 ∷ [])) (now (out .exit)) r ⌝ }
+    ensures { λ r. ⌜ Put filedYearsWidth (now (out .entry)) at (joined (startText 82 ∷ numberText area 44 ∷ numberText first 44 ∷ numberText last 44 ∷ [])) (now (out .exit)) r ⌝ }
 {
     let next = statement_field::put_start(out, at, 82);
     let next = statement_field::put_short(out, next, area, 44);
@@ -39,7 +45,7 @@ fn put_years(out: &mut [u8], at: usize, area: u16, first: u16, last: u16) -> usi
 
 // The units of a return, which end its line.
 fn put_units(out: &mut [u8], at: usize, received: u64, due: u64, balance: u64) -> usize
-    ensures { λ r. ⌜ Put 63 (now (out .entry)) at (joined (numberText received 44 ∷ numberText due 44 ∷ numberText balance 10 ∷ [])) (now (out .exit)) r ⌝ }
+    ensures { λ r. ⌜ Put unitsWidth (now (out .entry)) at (joined (numberText received 44 ∷ numberText due 44 ∷ numberText balance 10 ∷ [])) (now (out .exit)) r ⌝ }
 {
     let next = statement_field::put_field(out, at, received, 44);
     let next = statement_field::put_field(out, next, due, 44);
@@ -48,22 +54,15 @@ fn put_units(out: &mut [u8], at: usize, received: u64, due: u64, balance: u64) -
 
 // Puts the line of an accepted R or W entry; of another, nothing.
 pub fn put_report(out: &mut [u8], at: usize, report: Report) -> usize
-    ensures { λ r. ⌜ Put 105 (now (out .entry)) at (reportText report) (now (out .exit)) r ⌝ }
+    ensures { λ r. ⌜ Put reportWidth (now (out .entry)) at (reportText report) (now (out .exit)) r ⌝ }
 {
     match report {
         Report::Nothing => at,
-        Report::Return {
-            area,
-            first,
-            last,
-            change,
-            received,
-            due,
-            balance,
-        } => {
-            let next = put_years(out, at, area, first, last);
+        Report::Return(filed) => {
+            let change = filed.change;
+            let next = put_years(out, at, filed.area, filed.first, filed.last);
             let next = put_change(out, next, change);
-            put_units(out, next, received, due, balance)
+            put_units(out, next, filed.received, filed.due, filed.balance)
         }
         Report::Withdrawal { area, due } => {
             let next = statement_field::put_start(out, at, 87);
@@ -74,7 +73,7 @@ pub fn put_report(out: &mut [u8], at: usize, report: Report) -> usize
 }
 
 fn put_pair(out: &mut [u8], at: usize, letter: u8, a: u64, b: u64) -> usize
-    ensures { λ r. ⌜ Put 44 (now (out .entry)) at (pairText letter a b) (now (out .exit)) r ⌝ }
+    ensures { λ r. ⌜ Put pairWidth (now (out .entry)) at (pairText letter a b) (now (out .exit)) r ⌝ }
 {
     let next = statement_field::put_start(out, at, letter);
     let next = statement_field::put_field(out, next, a, 44);
@@ -83,7 +82,7 @@ fn put_pair(out: &mut [u8], at: usize, letter: u8, a: u64, b: u64) -> usize
 
 // Puts the line of a refused line, by its number in the book.
 pub fn put_refusal(out: &mut [u8], at: usize, line: u64, refusal: Refusal) -> usize
-    ensures { λ r. ⌜ Put 26 (now (out .entry)) at (refusalText line refusal) (now (out .exit)) r ⌝ }
+    ensures { λ r. ⌜ Put refusalWidth (now (out .entry)) at (refusalText line refusal) (now (out .exit)) r ⌝ }
 {
     let number = refusals::number(refusal);
     put_pair(out, at, 88, line, number as u64)
@@ -91,7 +90,7 @@ pub fn put_refusal(out: &mut [u8], at: usize, line: u64, refusal: Refusal) -> us
 
 // Puts the book's last line: how many lines were accepted, and how many refused.
 pub fn put_end(out: &mut [u8], at: usize, accepted: u64, refused: u64) -> usize
-    ensures { λ r. ⌜ Put 44 (now (out .entry)) at (endText accepted refused) (now (out .exit)) r ⌝ }
+    ensures { λ r. ⌜ Put pairWidth (now (out .entry)) at (endText accepted refused) (now (out .exit)) r ⌝ }
 {
     put_pair(out, at, 69, accepted, refused)
 }

@@ -1,37 +1,27 @@
 -- A listing has at most 11 bytes for each byte of its book and one more, and 14 for E: a line prints at most 11 bytes for each of its own and its end,
 -- since a refusal takes no more than 11 and the lines that print more are as much longer themselves.
-use Prim.Native.Nat.{ℕ, suc, _+_, _*_, _≤_, _<_}
-use mathlib.Core.Bool.{Bool, true, false, cond}
-use mathlib.Core.Path.{ap}
-use mathlib.Core.List.{List, [], _∷_, _++_}
-use mathlib.Core.Logic.{⊎-elim}
-use native.Mathlib.Omega.{arith}
-use lib.Dec.{eqb}
-use lib.ListN.{length, length-append}
-use Rattle.laws.specs.Elements.{sumBy}
+use Rattle.laws.proofs.{ℕ, suc, _+_, _*_, _≤_, _<_, Bool, true, false, cond, ap, List, [], _∷_, _++_, ⊎-elim, arith, eqb, length, length-append}
+use Rattle.laws.specs.{sumBy}
 use Rattle.laws.proofs.Order.{below-or-not}
-use Rattle.text.specs.Fields.{extend}
-use Rattle.refusals.specs.declared.Refusal.the-variants.{Form}
-use Rattle.refusals.specs.declared.Verdict.{Verdict}
-use Rattle.refusals.specs.declared.Verdict.the-variants.{Clear as Accepted, Turned as Refused}
-use Rattle.step_outcome.specs.declared.Outcome.{Outcome}
-use Rattle.book_print.specs.Printing.{reportText, refusalText, endText}
+use Rattle.text.specs.{extend}
+use Rattle.refusals.specs.{Verdict, Refusal}
+use Rattle.step_outcome.specs.{Outcome}
+use Rattle.book_print.specs.{reportText, refusalText, endText}
 use Rattle.book_print.proofs.Lengths.{refusal-few, end-few}
-use Rattle.book_listing.specs.Lines.{linesOf}
-use Rattle.book_listing.specs.Listing.{lineTaken, Run, start, next, printedFor, printed, listFrom, longestBook, listingOf}
+use Rattle.book_listing.specs.{linesOf, lineTaken, Run, start, next, printedFor, printed, listFrom, longestBook, listingOf}
 use Rattle.book_listing.proofs.Folding.{start-none, next-counts, listing-over, listing-lines}
-use Rattle.book_room.specs.Room.{mostForByte, mostForEnd, roomForAny}
+use Rattle.book_room.specs.{mostForByte, mostForEnd, roomForAny}
 use Rattle.book_room.proofs.Runs.{line-length, RunKept, start-kept, next-kept}
 
 -- a line's bytes and its end
 abbrev weight : List ℕ → ℕ
 weight line = length line + 1
 
-printed-for : (number m : ℕ) (v : Verdict) (outcome : Outcome) → number < 100000 → 11 ≤ m → length (reportText (outcome .report)) ≤ m
+printed-for : (number m : ℕ) (v : Verdict) (outcome : Outcome) → number < 100000 → mostForByte ≤ m → length (reportText (outcome .report)) ≤ m
     → length (printedFor number v outcome) ≤ m
 unfolding printedFor
-printed-for number m Accepted outcome n h l = l
-printed-for number m (Refused r) outcome n h l = omega (arith, refusal-few 4 number r n)
+printed-for number m Verdict.Accepted outcome n h l = l
+printed-for number m (Verdict.Refused r) outcome n h l = omega (arith, refusal-few 4 number r n)
 
 printed-length : (run : Run) (line : List ℕ) → RunKept run → run .accepted + run .refused + 1 < 100000 → length (printed run line) ≤ mostForByte * weight line
 unfolding printed
@@ -80,12 +70,12 @@ listing-length book h =
       lines-weigh book,
     )
 
-over-length : length (refusalText 0 Form ++ endText 0 1) ≤ 25
+over-length : length (refusalText 0 Refusal.Form ++ endText 0 1) ≤ 25
 over-length =
     omega (
       arith,
-      length-append (refusalText 0 Form) (endText 0 1),
-      refusal-few 4 0 Form (omega arith),
+      length-append (refusalText 0 Refusal.Form) (endText 0 1),
+      refusal-few 4 0 Refusal.Form (omega arith),
       end-few 4 4 0 1 (omega arith) (omega arith),
     )
 

@@ -1,27 +1,16 @@
 -- A turn of the loop is a turn of the fold: the code's table, holding and counts after a line are those of the run that follows.
-use Prim.Native.Nat.{ℕ, _+_, _-_}
-use mathlib.Core.Path.{_≡_, refl, ap, _∙_}
-use mathlib.Core.List.{List}
-use native.Mathlib.Omega.{arith}
-use lib.ListN.{length, length-set}
-use Rattle.refusals.specs.declared.Verdict.{Verdict}
-use Rattle.refusals.specs.declared.Verdict.the-variants.{Clear as Accepted, Turned as Refused}
-use Rattle.schedules.specs.Schedules.{schedule6}
-use Rattle.line_entry.specs.declared.Parsed.{Parsed}
-use Rattle.line.specs.Lines.{entryOf}
-use Rattle.holding.specs.declared.Area.{Area}
-use Rattle.holding.specs.declared.Holding.{Holding}
-use Rattle.holding.specs.declared.Found.{Found}
-use Rattle.holding.specs.declared.Found.the-variants.{At, Nowhere}
-use Rattle.holding_look.specs.declared.Looked.{Looked}
-use Rattle.holding_look.specs.Standing.{areaAt, lookedAt}
+use Rattle.laws.proofs.{ℕ, _+_, _-_, _≡_, refl, ap, _∙_, List, arith, length, length-set}
+use Rattle.refusals.specs.{Verdict}
+use Rattle.schedules.specs.{schedule6}
+use Rattle.line_entry.specs.{Parsed}
+use Rattle.line.specs.{entryOf}
+use Rattle.holding.specs.{Area, Holding, Found}
+use Rattle.holding_look.specs.{Looked, areaAt, lookedAt}
 use Rattle.holding_look.proofs.Laws.{looked-as}
-use Rattle.step_outcome.specs.declared.Outcome.{Outcome}
-use Rattle.step_outcome.specs.Outcomes.{placedAt, placed}
-use Rattle.book_listing.specs.Listing.{lineTaken, ifAccepted, tableAfter, Run, next, printedFor, printed}
-use Rattle.book_take.specs.declared.Turn.{Turn}
-use Rattle.book_take.specs.Turns.{parsedTurn, foundFor, turnOf}
-use Rattle.book_run.specs.Tables.{tableBy}
+use Rattle.step_outcome.specs.{Outcome, placedAt, placed}
+use Rattle.book_listing.specs.{lineTaken, ifAccepted, tableAfter, Run, next, printedFor, printed}
+use Rattle.book_take.specs.{Turn, parsedTurn, foundFor, turnOf}
+use Rattle.book_run.specs.{tableBy}
 use Rattle.book_run.proofs.Turns.{turn-outcome, turn-table}
 
 -- a step leaves as many places for areas as there were
@@ -30,12 +19,12 @@ unfolding placed
 placed-long holding outcome = go (outcome .place)
   where
     go : (found : Found) → length (placedAt holding found (outcome .count) (outcome .area) .areas) ≡ length (holding .areas)
-    go (At i) = length-set (holding .areas) i (outcome .area)
-    go Nowhere = refl
+    go (Found.At i) = length-set (holding .areas) i (outcome .area)
+    go Found.Nowhere = refl
 
 one-or-none : (v : Verdict) (a r : ℕ) → (a + ifAccepted v 1 0 ≡ ifAccepted v (a + 1) a) × (r + (1 - ifAccepted v 1 0) ≡ ifAccepted v r (r + 1))
-one-or-none Accepted a r = omega arith
-one-or-none (Refused refusal) a r = omega arith
+one-or-none Verdict.Accepted a r = omega arith
+one-or-none (Verdict.Refused refusal) a r = omega arith
 
 -- the turn of a line as it was read, on the area that was looked up, is the line's
 pub turn-is-of : (own default : List ℕ) (holding : Holding) (line : List ℕ) (parsed : Parsed) (found : Found) (area : Area) (turn : Turn)

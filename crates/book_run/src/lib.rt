@@ -2,21 +2,26 @@
 ghost use mathlib.Core.Path.{_≡_};
 ghost use Prim.Native.Nat.{_≤_};
 ghost use lib.ListN.{length, take};
-ghost use Rattle.table.specs.Participant.{longestTable};
-ghost use Rattle.text.specs.Writing.{Wrote};
-ghost use Rattle.book_listing.specs.Lines.{linesOf};
-ghost use Rattle.book_listing.specs.Listing.{start, listFrom, listingOf};
-ghost use Rattle.book_run.specs.Tables.{tableBy, Fronts};
+ghost use Rattle.table.specs.{longestTable};
+ghost use Rattle.text.specs.{Wrote};
+ghost use Rattle.book_listing.specs.{linesOf, start, listFrom, listingOf, longestBook};
+ghost use Rattle.book_run.specs.{tableBy, Fronts};
+use book_listing::LONGEST_BOOK;
 use holding::Found;
+use holding::MOST_AREAS;
 use holding_look::Looked;
 use refusals::Refusal;
-
-// The longest book, in bytes.
-const LONGEST: usize = 65536;
+use table::LONGEST_TABLE;
 
 // Grows the table where a T line was accepted; the answer is its length. `book_take::take` has grown it once to judge the line: at most ten
 // lines of a book are accepted T lines, and so no turn has a table to carry.
-fn extend(table: &mut [u16; 1020], count: usize, areas: usize, line: &[u8], column: Found) -> usize
+fn extend(
+    table: &mut [u16; LONGEST_TABLE],
+    count: usize,
+    areas: usize,
+    line: &[u8],
+    column: Found,
+) -> usize
     requires { ⌜ (count ≤ longestTable) × (length (now table) ≡ longestTable) ⌝ }
     ensures { λ r. ⌜ Fronts (now (table .exit)) r (tableBy (take count (now (table .entry))) areas (now (line .entry)) column) ⌝ }
 {
@@ -34,12 +39,12 @@ fn extend(table: &mut [u16; 1020], count: usize, areas: usize, line: &[u8], colu
 
 // Puts the listing of a book that is not too long; the answer, here and below, is the place after what was put.
 fn put_lines(book: &[u8], out: &mut [u8]) -> usize
-    requires { ⌜ length (now book) ≤ 65536 ⌝ }
+    requires { ⌜ length (now book) ≤ longestBook ⌝ }
     ensures { λ r. ⌜ Wrote (now (out .entry)) 0 (listFrom start (linesOf (now (book .entry)))) (now (out .exit)) r ⌝ }
 {
     let default = schedules::schedule_six();
     let mut holding = holding::empty_holding();
-    let mut table = [0u16; 1020];
+    let mut table = [0u16; LONGEST_TABLE];
     let mut count: usize = 0;
     let mut accepted: u64 = 0;
     let mut refused: u64 = 0;
@@ -51,7 +56,7 @@ fn put_lines(book: &[u8], out: &mut [u8]) -> usize
         let found = book_take::find(holding, parsed);
         let mut named = holding::empty_area();
         if let Found::At(k) = found {
-            if k < 16 {
+            if k < MOST_AREAS {
                 named = holding.areas[k];
             }
         }
@@ -72,7 +77,7 @@ fn put_lines(book: &[u8], out: &mut [u8]) -> usize
         let place = outcome.place;
         if let Found::At(k) = place {
             let area = outcome.area;
-            if k < 16 {
+            if k < MOST_AREAS {
                 holding.areas[k] = area;
             }
             holding.count = outcome.count;
@@ -86,7 +91,7 @@ fn put_lines(book: &[u8], out: &mut [u8]) -> usize
 pub fn put_listing(book: &[u8], out: &mut [u8]) -> usize
     ensures { λ r. ⌜ Wrote (now (out .entry)) 0 (listingOf (now (book .entry))) (now (out .exit)) r ⌝ }
 {
-    if LONGEST < book.len() {
+    if LONGEST_BOOK < book.len() {
         let next = book_print::put_refusal(out, 0, 0, Refusal::Form);
         return book_print::put_end(out, next, 0, 1);
     }

@@ -1,12 +1,13 @@
 // A line of a book: the area that it names, and what it comes to on that area and a table. Both tables are lent: the participant's, and the cells of Schedule 6.
 ghost use mathlib.Core.Path.{_≡_};
-ghost use Rattle.step_outcome.specs.Outcomes.{turnedBack};
-ghost use Rattle.step.specs.Steps.{appliedTo};
-ghost use Rattle.table_grow.specs.Growing.{growable};
-ghost use Rattle.book_take.specs.Turns.{stayed, columnTurn, entryTurn, refusalIn, foundFor, parsedTurn};
+ghost use Rattle.step_outcome.specs.{turnedBack};
+ghost use Rattle.step.specs.{appliedTo};
+ghost use Rattle.table_grow.specs.{growable};
+ghost use Rattle.book_take.specs.{stayed, columnTurn, entryTurn, refusalIn, foundFor, parsedTurn};
 use holding::Found;
 use holding::Holding;
 use holding_look::Looked;
+use line_entry::AreaAct;
 use line_entry::Entry;
 use line_entry::Parsed;
 use refusals::Refusal;
@@ -43,12 +44,12 @@ fn take_column(own: &[u16], areas: usize, line: &[u8], column: usize) -> Turn
     let grown = table_grow::grow(own, areas, line, column);
     let verdict = grown.verdict;
     match verdict {
-        Verdict::Turned(refusal) => turned(refusal),
-        Verdict::Clear => {
+        Verdict::Refused(refusal) => turned(refusal),
+        Verdict::Accepted => {
             let area = holding::empty_area();
             Turn {
                 outcome: Outcome {
-                    verdict: Verdict::Clear,
+                    verdict: Verdict::Accepted,
                     report: Report::Nothing,
                     place: Found::Nowhere,
                     count: areas,
@@ -60,11 +61,11 @@ fn take_column(own: &[u16], areas: usize, line: &[u8], column: usize) -> Turn
     }
 }
 
-// An entry that leaves the table.
-fn take_step<'a>(own: &'a [u16], default: &'a [u16], looked: Looked, entry: Entry) -> Turn
-    ensures { λ r. ⌜ r ≡ stayed (appliedTo (now (own .entry)) (now (default .entry)) looked entry) ⌝ }
+// An act on an area leaves the table.
+fn take_step<'a>(own: &'a [u16], default: &'a [u16], looked: Looked, on: AreaAct) -> Turn
+    ensures { λ r. ⌜ r ≡ stayed (appliedTo (now (own .entry)) (now (default .entry)) looked on) ⌝ }
 {
-    let outcome = step::apply_to(own, default, looked, entry);
+    let outcome = step::apply_to(own, default, looked, on);
     stay(outcome)
 }
 
@@ -77,10 +78,9 @@ fn take_entry<'a>(
 ) -> Turn
     ensures { λ r. ⌜ r ≡ entryTurn (now (own .entry)) (now (default .entry)) looked (now (line .entry)) entry ⌝ }
 {
-    let found = table_grow::column_of(entry);
-    match found {
-        Found::At(column) => take_column(own, looked.count, line, column),
-        Found::Nowhere => take_step(own, default, looked, entry),
+    match entry {
+        Entry::Column { column } => take_column(own, looked.count, line, column),
+        Entry::On(on) => take_step(own, default, looked, on),
     }
 }
 
@@ -89,7 +89,7 @@ fn refusal_in(parsed: Parsed) -> Refusal
     ensures { λ r. ⌜ r ≡ refusalIn parsed ⌝ }
 {
     match parsed {
-        Parsed::Turned(refusal) => refusal,
+        Parsed::Refused(refusal) => refusal,
         Parsed::Taken(_) => Refusal::Form,
     }
 }
@@ -101,7 +101,10 @@ pub fn find(holding: Holding, parsed: Parsed) -> Found
     let Parsed::Taken(entry) = parsed else {
         return Found::Nowhere;
     };
-    holding::find_area(holding, step::area_named(entry))
+    match entry {
+        Entry::Column { column: _ } => Found::Nowhere,
+        Entry::On(on) => holding::find_area(holding, on.area),
+    }
 }
 
 // What a line comes to, as it was read, on the area that it names.

@@ -1,43 +1,27 @@
 -- A book run line by line through the call gives the listing of `book`: after every line the program keeps the bytes of the holding and of the
 -- table that the listing carries, so every call is asked what `book` asks itself, and answers and prints the same.
-use Prim.Native.Nat.{ℕ, suc, _+_, _≤_}
-use mathlib.Core.Path.{_≡_, refl, sym, ap, subst, _∙_}
-use mathlib.Core.Bool.{Bool, true, false, cond}
-use mathlib.Core.List.{List, [], _∷_, _++_}
-use native.Mathlib.Omega.{arith}
+use Rattle.laws.proofs.{ℕ, suc, _+_, _≤_, _≡_, refl, sym, ap, subst, _∙_, Bool, true, false, cond, List, [], _∷_, _++_, arith, length, take, drop, length-append, length-drop, take-append-seam}
 use lib.IntN.{ℤ, pos, negsuc}
-use lib.ListN.{length, take, drop, length-append, length-drop}
-use lib.Seq.{take-append-seam}
-use Rattle.refusals.specs.declared.Refusal.{Refusal}
-use Rattle.refusals.specs.declared.Verdict.{Verdict}
-use Rattle.refusals.specs.declared.Verdict.the-variants.{Clear as Accepted, Turned as Refused}
-use Rattle.refusals.specs.Refusals.{numberOf}
-use Rattle.table.specs.Participant.{isTable}
-use Rattle.line_entry.specs.declared.Entry.{Entry}
-use Rattle.line_entry.specs.declared.Parsed.{Parsed}
-use Rattle.line_entry.specs.declared.Parsed.the-variants.{Taken, Turned}
-use Rattle.line.specs.Lines.{entryOf}
-use Rattle.holding.specs.declared.Holding.{Holding}
-use Rattle.holding.specs.declared.Found.{Found}
-use Rattle.holding.specs.declared.Found.the-variants.{At, Nowhere}
-use Rattle.holding_look.specs.Standing.{known}
-use Rattle.step_outcome.specs.declared.Outcome.{Outcome}
-use Rattle.step_outcome.specs.Outcomes.{placed}
-use Rattle.statement_format.specs.Format.{statementOf}
-use Rattle.table_grow.specs.Growing.{growable, longerBy}
-use Rattle.table_grow.specs.Sorts.{columnOf}
-use Rattle.book_print.specs.Printing.{reportText, refusalText, pairText}
-use Rattle.book_listing.specs.Listing.{entryTaken, parsedTaken, lineTaken, parsedTable, tableAfter, Run, next, printedFor, printed, listFrom, start}
-use Rattle.theorem_keeping.specs.Kept.{Kept}
+use Rattle.refusals.specs.{Refusal, Verdict, numberOf}
+use Rattle.table.specs.{isTable}
+use Rattle.line_entry.specs.{AreaAct, Entry, Parsed}
+use Rattle.line.specs.{entryOf}
+use Rattle.holding.specs.{Holding}
+use Rattle.step_outcome.specs.{Outcome, placed}
+use Rattle.statement_format.specs.{statementOf}
+use Rattle.table_grow.specs.{growable, longerBy}
+use Rattle.book_print.specs.{reportText, refusalText, pairText}
+use Rattle.book_listing.specs.{entryTaken, parsedTaken, lineTaken, parsedTable, tableAfter, Run, next, printedFor, printed, listFrom, start}
+use Rattle.theorem_keeping.specs.{Kept}
 use Rattle.theorem_keeping.proofs.Keeping.{empty-kept}
-use Rattle.call_output.specs.Outputs.{tableBytes}
-use Rattle.call_line.specs.Call.{stateBytes, foundBytes, entryBytes, parsedBytes, callVerdict, callBytes, callAnswer, callOutput}
-use Rattle.call_line.proofs.Sorts.{column-taken, step-taken, accepted-column}
-use Rattle.call_book.specs.Calls.{Caller, begin, statementIn, reportIn, taken, answered, afterCall, shown, shownAfter, callsFrom}
+use Rattle.call_output.specs.{tableBytes}
+use Rattle.call_line.specs.{stateBytes, entryBytes, parsedBytes, callVerdict, callBytes, callAnswer, callOutput}
+use Rattle.call_line.proofs.Sorts.{accepted-column}
+use Rattle.call_book.specs.{Caller, begin, statementIn, reportIn, taken, answered, afterCall, shown, shownAfter, callsFrom}
 use Rattle.call_book.proofs.Split.{statement-split, report-split}
-use Rattle.call_book.proofs.ColumnLines.{column-line}
+use Rattle.call_book.proofs.ColumnLines.{isColumn, column-line}
 use Rattle.call_book.proofs.Tables.{longer-table}
-use Rattle.call_book.proofs.Taken.{line-leaves, step-kept}
+use Rattle.call_book.proofs.Taken.{line-leaves, act-kept}
 use Rattle.call_book.proofs.Answers.{refused-call, accepted-call, own-verdict, minus-number}
 
 -- the program keeps what the listing carries, as bytes
@@ -79,25 +63,25 @@ module _ (most : ℕ) (caller : Caller) (run : Run) (f : Follows most caller run
   by-answer out answer p q = (rw (p, q), rw (p, q))
 
   -- what the listing comes to, by the verdict
-  next-refused : (r : Refusal) → outcome .verdict ≡ Refused r → placed holding outcome ≡ holding
+  next-refused : (r : Refusal) → outcome .verdict ≡ Verdict.Refused r → placed holding outcome ≡ holding
       → next run line ≡ record { own = own; holding = holding; accepted = run .accepted; refused = run .refused + 1 }
   unfolding next tableAfter placed
   next-refused r e leaves = rw (e, leaves)
 
-  next-accepted : (more : List ℕ) (after : Holding) → outcome .verdict ≡ Accepted → parsedTable own line (entryOf line) ≡ more → placed holding outcome ≡ after
+  next-accepted : (more : List ℕ) (after : Holding) → outcome .verdict ≡ Verdict.Accepted → parsedTable own line (entryOf line) ≡ more → placed holding outcome ≡ after
       → next run line ≡ record { own = more; holding = after; accepted = run .accepted + 1; refused = run .refused }
   unfolding next tableAfter placed
   next-accepted more after e p q = rw (e, p, q)
 
-  printed-refused : (r : Refusal) → outcome .verdict ≡ Refused r → printed run line ≡ pairText 88 (run .accepted + run .refused + 1) (numberOf r)
+  printed-refused : (r : Refusal) → outcome .verdict ≡ Verdict.Refused r → printed run line ≡ pairText 88 (run .accepted + run .refused + 1) (numberOf r)
   unfolding printed printedFor refusalText
   printed-refused r e = rw e
 
-  printed-accepted : outcome .verdict ≡ Accepted → printed run line ≡ reportText (outcome .report)
+  printed-accepted : outcome .verdict ≡ Verdict.Accepted → printed run line ≡ reportText (outcome .report)
   unfolding printed printedFor
   printed-accepted e = rw e
 
-  refused-matches : (r : Refusal) → outcome .verdict ≡ Refused r → Matches most caller run line
+  refused-matches : (r : Refusal) → outcome .verdict ≡ Verdict.Refused r → Matches most caller run line
   unfolding lineTaken
   refused-matches r e =
       let call = refused-call own holding (f .kept) (f .isOwn) (caller .statement) (caller .table) line (caller .out) (f .statement) (f .table) r e in
@@ -121,14 +105,14 @@ module _ (most : ℕ) (caller : Caller) (run : Run) (f : Follows most caller run
       }
 
   -- an accepted call: its output stands in front, and all of it is taken
-  module _ (clear : outcome .verdict ≡ Accepted) (enough : needed ≤ most) (entry : Entry) (read : entryOf line ≡ Taken entry) where
+  module _ (clear : outcome .verdict ≡ Verdict.Accepted) (enough : needed ≤ most) (entry : Entry) (read : entryOf line ≡ Parsed.Taken entry) where
     abbrev written : List ℕ
     written = entryBytes own holding line entry
 
     abbrev out : List ℕ
     out = written ++ drop (length written) (caller .out)
 
-    accepted-after : (t : Bool) → known (columnOf entry) ≡ t
+    accepted-after : (t : Bool) → isColumn entry ≡ t
         → (afterCall caller line ≡ taken caller t out written) × (shownAfter caller line ≡ cond t [] (reportIn written))
     accepted-after t e =
         let room : needed ≤ length (caller .out) = omega (arith, enough, f .room) in
@@ -149,77 +133,66 @@ module _ (most : ℕ) (caller : Caller) (run : Run) (f : Follows most caller run
     unfolding lineTaken parsedTaken
     by-entry = rw read
 
-    column-bytes : (column : ℕ) → columnOf entry ≡ At column → written ≡ tableBytes (longerBy own line column)
-    unfolding entryBytes
-    column-bytes column c = ap (foundBytes own holding line entry) c
+  column-matches : (column : ℕ) → outcome .verdict ≡ Verdict.Accepted → needed ≤ most → entryOf line ≡ Parsed.Taken (Entry.Column column) → Matches most caller run line
+  unfolding placed reportText entryTaken entryBytes
+  column-matches column clear enough read =
+      let after = accepted-after clear enough (Entry.Column column) read true refl in
+      let same = by-entry clear enough (Entry.Column column) read in
+      let grown = accepted-column (growable own (holding .count) line column) holding (ap (λ (o : Outcome). o .verdict) (sym same) ∙ clear) in
+      record {
+        follows = follows-as (after .0)
+            (next-accepted (longerBy own line column) holding clear (ap (parsedTable own line) read) (ap (placed holding) (same ∙ grown .1))) (record {
+              statement = f .statement;
+              table = refl;
+              room = enough-room clear enough (Entry.Column column) read;
+              accepted = ap (λ (n : ℕ). n + 1) (f .accepted);
+              refused = f .refused;
+              kept = f .kept;
+              isOwn = longer-table own (holding .count) line column (grown .0);
+            });
+        prints = after .1 ∙ sym (printed-accepted clear ∙ ap (λ (o : Outcome). reportText (o .report)) (same ∙ grown .1));
+      }
 
-    step-bytes : columnOf entry ≡ Nowhere → written ≡ stateBytes holding outcome
-    unfolding entryBytes
-    step-bytes c = ap (foundBytes own holding line entry) c ∙ ap (stateBytes holding) (sym by-entry)
+  act-matches : (on : AreaAct) → outcome .verdict ≡ Verdict.Accepted → needed ≤ most → entryOf line ≡ Parsed.Taken (Entry.On on) → Matches most caller run line
+  unfolding entryTaken entryBytes
+  act-matches on clear enough read =
+      let after = accepted-after clear enough (Entry.On on) read false refl in
+      let same = by-entry clear enough (Entry.On on) read in
+      let whole = ap (stateBytes holding) (sym same) in
+      record {
+        follows = follows-as (after .0) (next-accepted own (placed holding outcome) clear (ap (parsedTable own line) read) refl) (record {
+          statement = ap statementIn whole ∙ statement-split (placed holding outcome) (outcome .report);
+          table = f .table;
+          room = enough-room clear enough (Entry.On on) read;
+          accepted = ap (λ (n : ℕ). n + 1) (f .accepted);
+          refused = f .refused;
+          kept = subst (λ (o : Outcome). Kept (placed holding o)) (sym same) (act-kept own holding (f .isOwn) (f .kept) on);
+          isOwn = f .isOwn;
+        });
+        prints = after .1 ∙ ap reportIn whole ∙ report-split (placed holding outcome) (outcome .report) ∙ sym (printed-accepted clear);
+      }
 
-    column-matches : (column : ℕ) → columnOf entry ≡ At column → Matches most caller run line
-    unfolding placed reportText
-    column-matches column c =
-        let after = accepted-after true (ap known c) in
-        let taken-as = column-taken own holding line entry column c in
-        let same = by-entry ∙ taken-as .0 in
-        let grown = accepted-column (growable own (holding .count) line column) holding (ap (λ (o : Outcome). o .verdict) (sym same) ∙ clear) in
-        let more = ap (parsedTable own line) read ∙ taken-as .1 in
-        record {
-          follows = follows-as (after .0) (next-accepted (longerBy own line column) holding clear more (ap (placed holding) (same ∙ grown .1))) (record {
-            statement = f .statement;
-            table = column-bytes column c;
-            room = enough-room;
-            accepted = ap (λ (n : ℕ). n + 1) (f .accepted);
-            refused = f .refused;
-            kept = f .kept;
-            isOwn = longer-table own (holding .count) line column (grown .0);
-          });
-          prints = after .1 ∙ sym (printed-accepted clear ∙ ap (λ (o : Outcome). reportText (o .report)) (same ∙ grown .1));
-        }
-
-    step-matches : columnOf entry ≡ Nowhere → Matches most caller run line
-    step-matches c =
-        let after = accepted-after false (ap known c) in
-        let whole = step-bytes c in
-        let same = ap (parsedTable own line) read ∙ step-taken own holding line entry c .1 in
-        record {
-          follows = follows-as (after .0) (next-accepted own (placed holding outcome) clear same refl) (record {
-            statement = ap statementIn whole ∙ statement-split (placed holding outcome) (outcome .report);
-            table = f .table;
-            room = enough-room;
-            accepted = ap (λ (n : ℕ). n + 1) (f .accepted);
-            refused = f .refused;
-            kept = subst (λ (o : Outcome). Kept (placed holding o)) (sym by-entry) (step-kept own holding (f .isOwn) line (f .kept) entry c);
-            isOwn = f .isOwn;
-          });
-          prints = after .1 ∙ ap reportIn whole ∙ report-split (placed holding outcome) (outcome .report) ∙ sym (printed-accepted clear);
-        }
-
-  line-matches : (callVerdict (caller .statement) (caller .table) line ≡ Accepted → needed ≤ most) → Matches most caller run line
+  line-matches : (callVerdict (caller .statement) (caller .table) line ≡ Verdict.Accepted → needed ≤ most) → Matches most caller run line
   unfolding lineTaken parsedTaken
   line-matches enough = by-verdict (outcome .verdict) refl
     where
-      by-parse : (p : Parsed) → entryOf line ≡ p → outcome .verdict ≡ Accepted → needed ≤ most → Matches most caller run line
-      by-parse (Turned r) e clear h =
+      by-parse : (p : Parsed) → entryOf line ≡ p → outcome .verdict ≡ Verdict.Accepted → needed ≤ most → Matches most caller run line
+      by-parse (Parsed.Refused r) e clear h =
           let turned = ap (λ (p : Parsed). parsedTaken own holding line p .verdict) e in
           let z : _≡_ {A = ℕ} 0 1 = cc in
           absurd (omega arith)
-      by-parse (Taken entry) e clear h = by-column (columnOf entry) refl
-        where
-          by-column : (found : Found) → columnOf entry ≡ found → Matches most caller run line
-          by-column (At column) c = column-matches clear h entry e column c
-          by-column Nowhere c = step-matches clear h entry e c
+      by-parse (Parsed.Taken (Entry.Column column)) e clear h = column-matches column clear h e
+      by-parse (Parsed.Taken (Entry.On on)) e clear h = act-matches on clear h e
 
       by-verdict : (v : Verdict) → outcome .verdict ≡ v → Matches most caller run line
-      by-verdict (Refused r) e = refused-matches r e
-      by-verdict Accepted e =
+      by-verdict (Verdict.Refused r) e = refused-matches r e
+      by-verdict Verdict.Accepted e =
           let same = own-verdict own holding (f .kept) (f .isOwn) (caller .statement) (caller .table) line (caller .out) (f .statement) (f .table) in
           by-parse (entryOf line) refl e (enough (same ∙ e))
 
 -- the bytes that a call needs are at most so many
 abbrev pub Enough : ℕ → Type 0
-Enough most = (statement table line : List ℕ) → callVerdict statement table line ≡ Accepted → length (callBytes statement table line) ≤ most
+Enough most = (statement table line : List ℕ) → callVerdict statement table line ≡ Verdict.Accepted → length (callBytes statement table line) ≤ most
 
 calls-follow : (most : ℕ) → Enough most → (lines : List (List ℕ)) (caller : Caller) (run : Run) → Follows most caller run
     → callsFrom caller lines ≡ listFrom run lines

@@ -1,29 +1,18 @@
 -- A line that is read as an entry is a T entry just when its first byte is T: its letter is its first byte, and only T's rule makes a column.
-use Prim.Native.Nat.{ℕ, _-_, _<_}
-use mathlib.Core.Path.{_≡_, refl, sym, ap, _∙_}
-use mathlib.Core.Bool.{Bool, true, false, cond}
-use mathlib.Core.List.{List, [], _∷_}
-use native.Mathlib.Omega.{arith}
-use lib.Dec.{eqb}
-use lib.ListN.{length, getD, take, length-take}
-use lib.Seq.{getD-take}
-use Rattle.text.specs.Fields.{split}
-use Rattle.refusals.specs.declared.Verdict.the-variants.{Clear as Accepted}
-use Rattle.refusals.specs.Refusals.{smallest}
-use Rattle.refusals.proofs.Laws.{NoneApplies, none-applies}
-use Rattle.line_entry.specs.declared.Entry.{Entry}
-use Rattle.line_entry.specs.declared.Parsed.the-variants.{Taken}
-use Rattle.line_entry.specs.Rules.{Rule, openRule, addRule, clearRule, plantRule, fileRule, withdrawRule}
-use Rattle.line_column.specs.Columns.{columnRule}
-use Rattle.line.specs.Lines.{bodyOf, letterOf, noRule, ruleOf, lineRule, conditions, entryOf}
-use Rattle.holding_look.specs.Standing.{known}
+use Rattle.laws.proofs.{ℕ, _-_, _<_, _≡_, refl, sym, ap, _∙_, Bool, true, false, cond, List, [], _∷_, arith, eqb, length, getD, take, length-take, getD-take}
+use Rattle.text.specs.{split}
+use Rattle.refusals.specs.{smallest, Verdict}
+use Rattle.refusals.proofs.Laws.{ruled-out}
+use Rattle.line_entry.specs.{Entry, Rule, openRule, addRule, clearRule, plantRule, fileRule, withdrawRule, Parsed}
+use Rattle.line_column.specs.{columnRule}
+use Rattle.line.specs.{bodyOf, letterOf, noRule, ruleOf, lineRule, conditions, entryOf}
 use Rattle.theorem_keeping.proofs.Tests.{clash}
-use Rattle.table_grow.specs.Sorts.{columnOf}
 use Rattle.call_line.proofs.Ranged.{taken-by}
-use Rattle.call_book.specs.Calls.{isColumnLine}
+use Rattle.call_book.specs.{isColumnLine}
 
-abbrev isColumn : Entry → Bool
-isColumn entry = known (columnOf entry)
+abbrev pub isColumn : Entry → Bool
+isColumn (Entry.Column column) = true
+isColumn (Entry.On on) = false
 
 neither : (t : Bool) (x y : Rule) → isColumn (x .entry) ≡ false → isColumn (y .entry) ≡ false → isColumn (cond t x y .entry) ≡ false
 neither true x y p q = p
@@ -50,11 +39,11 @@ column-rule letter fs = go (eqb letter 84)
         (neither (eqb letter 80) _ _ refl (neither (eqb letter 82) _ _ refl (neither (eqb letter 87) _ _ refl refl)))))
 
 -- what has no letter is refused
-no-letter : (body : List ℕ) → letterOf body ≡ 0 → smallest (conditions body) ≡ Accepted → ⊥
-unfolding conditions lineRule ruleOf noRule NoneApplies
-no-letter body e clear = let none = none-applies (conditions body) clear in let n = simp e at (none .1 .1) in clash (n .0)
+no-letter : (body : List ℕ) → letterOf body ≡ 0 → smallest (conditions body) ≡ Verdict.Accepted → ⊥
+unfolding conditions lineRule ruleOf noRule
+no-letter body e clear = let out = ruled-out (conditions body) clear 2 in clash (simp e at out)
 
-letter-first : (body : List ℕ) → smallest (conditions body) ≡ Accepted → (letterOf body ≡ getD body 0 0) × (0 < length body)
+letter-first : (body : List ℕ) → smallest (conditions body) ≡ Verdict.Accepted → (letterOf body ≡ getD body 0 0) × (0 < length body)
 unfolding letterOf
 letter-first [] clear = absurd (no-letter [] refl clear)
 letter-first (b ∷ []) clear = (refl, omega arith)
@@ -72,7 +61,7 @@ body-first line h = go (eqb (getD line (length line - 1) 0) 10) h
     go true h = getD-take (length line - 1) line 0 0 (omega (arith, length-take (length line - 1) line))
     go false h = refl
 
-pub column-line : (line : List ℕ) (entry : Entry) → entryOf line ≡ Taken entry → known (columnOf entry) ≡ isColumnLine line
+pub column-line : (line : List ℕ) (entry : Entry) → entryOf line ≡ Parsed.Taken entry → isColumn entry ≡ isColumnLine line
 unfolding entryOf lineRule isColumnLine
 column-line line entry e =
     let body = bodyOf line in

@@ -1,31 +1,21 @@
 -- How long a statement is whose holding is kept: each number has as many digits as its range, and sixteen lines at most follow one another.
-use Prim.Native.Nat.{ℕ, _*_, _≤_}
-use mathlib.Core.Bool.{Bool, true, false}
-use mathlib.Core.List.{List, [], _∷_}
+use Rattle.laws.proofs.{ℕ, _*_, _≤_, Bool, true, false, List, [], _∷_, arith, length, length-append, length-take}
 use native.Mathlib.Nat.{mul-suc}
-use native.Mathlib.Omega.{arith}
-use lib.ListN.{length, length-append, length-take}
-use Rattle.forest.specs.declared.Forest.{Forest}
-use Rattle.forest.specs.declared.Forest.the-variants.{Bare, Radiata, DouglasFir, ExoticSoftwoods, ExoticHardwoods, Indigenous}
-use Rattle.forest.specs.Letters.{lettersOf}
-use Rattle.holding.specs.declared.Sub.{Sub}
-use Rattle.holding.specs.declared.Area.{Area}
-use Rattle.holding.specs.declared.Holding.{Holding}
-use Rattle.holding.specs.Holding.{mostAreas, mostSubs, areasOf, subsOf}
-use Rattle.statement_format.specs.Format.{startText, numberText, typeText, joined, texts, residueText, subText, flag, yearsText, amountsText, areaText, statementOf}
+use Rattle.forest.specs.{Forest, lettersOf}
+use Rattle.holding.specs.{Sub, Area, Holding, mostAreas, mostSubs, areasOf, subsOf}
+use Rattle.statement_format.specs.{startText, numberText, typeText, joined, texts, residueText, subText, flag, yearsText, amountsText, areaText, statementOf, typeWidth, yearsWidth, flagWidth, carriedSubWidth, carriedAmountsWidth, carriedAreaWidth, carriedWidth}
 use Rattle.statement_field.proofs.Puts.{number-few}
-use Rattle.theorem_keeping.specs.Tidy.{Each}
-use Rattle.theorem_keeping.specs.Kept.{Kept}
+use Rattle.theorem_keeping.specs.{Each, Kept}
 use Rattle.theorem_round_trips.proofs.Fitting.{SubFits, AreaFits, holding-fits}
 
-type-few : (forest : Forest) (end : ℕ) → length (typeText forest end) ≤ 3
+type-few : (forest : Forest) (end : ℕ) → length (typeText forest end) ≤ typeWidth
 unfolding typeText lettersOf
-type-few Bare end = omega arith
-type-few (Radiata region) end = omega arith
-type-few DouglasFir end = omega arith
-type-few ExoticSoftwoods end = omega arith
-type-few ExoticHardwoods end = omega arith
-type-few Indigenous end = omega arith
+type-few Forest.Bare end = omega arith
+type-few (Forest.Radiata region) end = omega arith
+type-few Forest.DouglasFir end = omega arith
+type-few Forest.ExoticSoftwoods end = omega arith
+type-few Forest.ExoticHardwoods end = omega arith
+type-few Forest.Indigenous end = omega arith
 
 texts-few : {A : Type 0} (P : A → Type 0) (text : A → List ℕ) (most : ℕ) → ((a : A) → P a → length (text a) ≤ most)
     → (l : List A) → Each P l → length (texts text l) ≤ most * length l
@@ -34,7 +24,7 @@ texts-few P text most few [] each = omega arith
 texts-few P text most few (a ∷ l) each =
     simp length-append (omega (arith, few a (each .0), texts-few P text most few l (each .1), mul-suc most (length l)))
 
-sub-few : (sub : Sub) → SubFits sub → length (subText sub) ≤ 41
+sub-few : (sub : Sub) → SubFits sub → length (subText sub) ≤ carriedSubWidth
 unfolding subText residueText joined startText
 sub-few sub fits =
     simp length-append
@@ -49,7 +39,7 @@ sub-few sub fits =
       number-few 4 (sub .residue .year) 10 (omega (arith, fits .year)),
     ))
 
-years-few : (area : Area) → AreaFits area → length (yearsText area) ≤ 24
+years-few : (area : Area) → AreaFits area → length (yearsText area) ≤ yearsWidth
 unfolding yearsText joined
 years-few area fits =
     simp length-append
@@ -61,11 +51,11 @@ years-few area fits =
       number-few 4 (area .latest) 44 (omega (arith, fits .latest)),
     ))
 
-flag-few : (b : Bool) → length (numberText (flag b) 44) ≤ 2
+flag-few : (b : Bool) → length (numberText (flag b) 44) ≤ flagWidth
 flag-few true = omega (arith, number-few 0 1 44 (omega arith))
 flag-few false = omega (arith, number-few 0 0 44 (omega arith))
 
-amounts-few : (area : Area) → AreaFits area → length (amountsText area) ≤ 56
+amounts-few : (area : Area) → AreaFits area → length (amountsText area) ≤ carriedAmountsWidth
 unfolding amountsText joined
 amounts-few area fits =
     simp length-append
@@ -78,7 +68,7 @@ amounts-few area fits =
       number-few 14 (area .surrendered) 44 (omega (arith, fits .surrendered)),
     ))
 
-area-few : (area : Area) → AreaFits area → length (areaText area) ≤ 741
+area-few : (area : Area) → AreaFits area → length (areaText area) ≤ carriedAreaWidth
 unfolding areaText joined startText
 area-few area fits =
     let room : area .count ≤ mostSubs = fits .subs .room in
@@ -88,11 +78,11 @@ area-few area fits =
       years-few area fits,
       amounts-few area fits,
       number-few 1 (area .count) 10 (omega arith),
-      texts-few SubFits subText 41 sub-few (subsOf area) (fits .subs .each),
+      texts-few SubFits subText carriedSubWidth sub-few (subsOf area) (fits .subs .each),
       length-take (area .count) (area .subs),
     ))
 
-pub statement-few : (holding : Holding) → Kept holding → length (statementOf holding) ≤ 11861
+pub statement-few : (holding : Holding) → Kept holding → length (statementOf holding) ≤ carriedWidth
 unfolding statementOf joined startText
 statement-few holding kept =
     let fits = holding-fits holding kept in
@@ -101,6 +91,6 @@ statement-few holding kept =
     (omega (
       arith,
       number-few 1 (holding .count) 10 (omega arith),
-      texts-few AreaFits areaText 741 area-few (areasOf holding) (fits .each),
+      texts-few AreaFits areaText carriedAreaWidth area-few (areasOf holding) (fits .each),
       length-take (holding .count) (holding .areas),
     ))

@@ -1,27 +1,16 @@
 -- Where the report begins in the bytes that a call wrote: no line of a statement begins with R or W, and a report does, so the scan passes over the
 -- statement and stops behind it.
-use Prim.Native.Nat.{ℕ, _+_, _≤_}
-use mathlib.Core.Path.{_≡_, refl, sym, ap, subst, _∙_}
-use mathlib.Core.Bool.{Bool, true, false, _||_}
-use mathlib.Core.List.{List, [], _∷_, _++_, append-assoc}
-use native.Mathlib.Omega.{arith}
+use Rattle.laws.proofs.{ℕ, _+_, _≤_, _≡_, refl, sym, ap, subst, _∙_, Bool, true, false, _||_, List, [], _∷_, _++_, append-assoc, arith, ne-eqb, eqb, length, take, drop, length-append, take-append-seam}
 use native.Mathlib.Nat.{add-assoc}
-use borrow.Author.Tests.{ne-eqb}
-use lib.Dec.{eqb}
-use lib.ListN.{length, take, drop, length-append}
-use lib.Seq.{take-append-seam, drop-append-seam}
-use Rattle.text.specs.Digits.{digits}
-use Rattle.forest.specs.declared.Forest.{Forest}
-use Rattle.holding.specs.declared.Sub.{Sub}
-use Rattle.holding.specs.declared.Area.{Area}
-use Rattle.holding.specs.declared.Holding.{Holding}
-use Rattle.holding.specs.Holding.{areasOf, subsOf}
-use Rattle.statement_format.specs.Format.{startText, numberText, typeText, joined, texts, residueText, subText, yearsText, amountsText, areaText, statementOf}
-use Rattle.step_outcome.specs.declared.Report.{Report}
-use Rattle.step_outcome.specs.declared.Report.the-variants.{Nothing, Return, Withdrawal}
-use Rattle.book_print.specs.Printing.{reportText}
+use lib.Seq.{drop-append-seam}
+use Rattle.text.specs.{digits}
+use Rattle.forest.specs.{Forest}
+use Rattle.holding.specs.{Sub, Area, Holding, areasOf, subsOf}
+use Rattle.statement_format.specs.{startText, numberText, typeText, joined, texts, residueText, subText, yearsText, amountsText, areaText, statementOf}
+use Rattle.step_outcome.specs.{Report}
+use Rattle.book_print.specs.{reportText}
 use Rattle.theorem_round_trips.proofs.Widths.{High, high-digits, high-letters}
-use Rattle.call_book.specs.Calls.{beforeReport, statementIn, reportIn}
+use Rattle.call_book.specs.{beforeReport, statementIn, reportIn}
 
 -- the scan passes over the bytes, from a line's beginning or from within a line, and then stands at one or within one
 record Passed (begins after : Bool) (bytes : List ℕ) : Type 0 where
@@ -112,9 +101,9 @@ passed-statement holding =
 -- a report begins at once, or there is none
 stops-at : (report : Report) → beforeReport true (reportText report) ≡ 0
 unfolding beforeReport reportText joined startText
-stops-at Nothing = refl
-stops-at (Return area first last change received due balance) = refl
-stops-at (Withdrawal area due) = refl
+stops-at Report.Nothing = refl
+stops-at (Report.Return filed) = refl
+stops-at (Report.Withdrawal area due) = refl
 
 module _ (holding : Holding) (report : Report) where
   behind-statement : beforeReport true (statementOf holding ++ reportText report) ≡ length (statementOf holding)

@@ -1,25 +1,16 @@
 -- The table from call to call: its bytes are read back as its numbers, and a table longer by a column is again a table.
-use Prim.Native.Nat.{ℕ, _+_, _*_, _/_, _%_, _≤_}
-use mathlib.Core.Path.{_≡_, refl, ap, _∙_}
-use mathlib.Core.Bool.{true}
-use mathlib.Core.List.{List, [], _∷_}
-use native.Mathlib.Omega.{arith}
-use borrow.Author.Tests.{eq-eqb, le-ltb}
-use lib.Dec.{leb}
-use lib.ListN.{length}
-use Rattle.refusals.specs.declared.Refusal.the-variants.{TableAfterArea}
-use Rattle.refusals.specs.declared.Verdict.the-variants.{Clear as Accepted}
-use Rattle.refusals.specs.Refusals.{weighed, weighAll, smallest}
+use Rattle.laws.proofs.{ℕ, _+_, _*_, _/_, _%_, _≤_, _≡_, refl, ap, _∙_, true, List, [], _∷_, arith, eq-eqb, le-ltb, leb, length}
+use Rattle.refusals.specs.{weighed, weighAll, smallest, Refusal, Verdict}
 use Rattle.refusals.proofs.Laws.{clear-before}
-use Rattle.table.specs.Participant.{longestTable, isTable}
+use Rattle.table.specs.{longestTable, isTable}
 use Rattle.table.proofs.Columns.{table-fits}
-use Rattle.table_bytes.specs.Bytes.{numbersOf, decodable}
-use Rattle.table_extend.specs.Extension.{begun, extensible}
+use Rattle.table_bytes.specs.{numbersOf, decodable}
+use Rattle.table_extend.specs.{begun, extensible}
 use Rattle.table_extend.proofs.Kept.{extended-table}
-use Rattle.table_grow.specs.Growing.{lineCells, longerBy, growable}
-use Rattle.call_output.specs.Outputs.{tableBytes}
+use Rattle.table_grow.specs.{lineCells, longerBy, growable}
+use Rattle.call_output.specs.{tableBytes}
 use Rattle.call_output.proofs.TableBytes.{bytes-length}
-use Rattle.call_line.specs.Call.{tableVerdict}
+use Rattle.call_line.specs.{tableVerdict}
 
 pub numbers-back : (own : List ℕ) → numbersOf (tableBytes own) ≡ own
 unfolding numbersOf tableBytes
@@ -28,7 +19,7 @@ numbers-back (n ∷ own) =
     let whole : n % 256 + 256 * (n / 256) ≡ n = omega arith in
     ap (λ (k : ℕ). k ∷ numbersOf (tableBytes own)) whole ∙ ap (λ (l : List ℕ). n ∷ l) (numbers-back own)
 
-pub table-accepted : (own : List ℕ) → isTable own ≡ true → tableVerdict (tableBytes own) ≡ Accepted
+pub table-accepted : (own : List ℕ) → isTable own ≡ true → tableVerdict (tableBytes own) ≡ Verdict.Accepted
 unfolding tableVerdict decodable smallest weighAll weighed
 table-accepted own e =
     let n = bytes-length own in
@@ -37,8 +28,8 @@ table-accepted own e =
     let few : length (tableBytes own) / 2 ≤ longestTable = omega (arith, n) in
     simp (eq-eqb (length (tableBytes own) % 2) 0 even, le-ltb longestTable (length (tableBytes own) / 2) few, numbers-back own, e)
 
-pub longer-table : (own : List ℕ) (areas : ℕ) (line : List ℕ) (column : ℕ) → growable own areas line column ≡ Accepted → isTable (longerBy own line column) ≡ true
+pub longer-table : (own : List ℕ) (areas : ℕ) (line : List ℕ) (column : ℕ) → growable own areas line column ≡ Verdict.Accepted → isTable (longerBy own line column) ≡ true
 unfolding growable longerBy
 longer-table own areas line column e =
     extended-table (begun own) column (lineCells line) longestTable
-    (clear-before (extensible (begun own) column (lineCells line) longestTable) (leb 1 areas) TableAfterArea e)
+    (clear-before (extensible (begun own) column (lineCells line) longestTable) (leb 1 areas) Refusal.TableAfterArea e)

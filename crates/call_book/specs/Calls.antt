@@ -1,19 +1,16 @@
 -- A book run line by line through the call, as the field unit's own program runs it: it keeps a statement, a table and one output buffer, and
 -- lends them to every call.
-use Prim.Native.Nat.{ℕ, suc, _+_}
-use mathlib.Core.Bool.{Bool, true, false, cond, _&&_, _||_}
-use mathlib.Core.List.{List, [], _∷_, _++_}
-use lib.Dec.{eqb}
+use Rattle.laws.specs.{ℕ, suc, _+_, Bool, true, false, cond, _&&_, _||_, List, [], _∷_, _++_, eqb, length, getD, take, drop}
+use Rattle.book_room.specs.{returnWidth}
 use lib.IntN.{ℤ, pos, negsuc}
-use lib.ListN.{length, getD, take, drop}
-use Rattle.holding.specs.Holding.{emptyHolding}
-use Rattle.statement_format.specs.Format.{statementOf}
-use Rattle.book_print.specs.Printing.{pairText, endText}
-use Rattle.call_line.specs.Call.{callAnswer, callOutput}
+use Rattle.holding.specs.{emptyHolding}
+use Rattle.statement_format.specs.{statementOf, carriedWidth}
+use Rattle.book_print.specs.{pairText, endText}
+use Rattle.call_line.specs.{callAnswer, callOutput}
 
 -- the most bytes that a call writes (`call-few`): an output as long is never too short
 abbrev pub mostWritten : ℕ
-mostWritten = 12288
+mostWritten = carriedWidth + returnWidth
 
 pub record Caller : Type 0 where
   pub statement : List ℕ

@@ -1,75 +1,51 @@
 -- What each part of a call answers and leaves, from what the parts below it answered.
-use Prim.Native.Nat.{ℕ, _-_, _≤_, _<_}
-use mathlib.Core.Path.{_≡_, refl, sym, ap, subst, _∙_}
-use mathlib.Core.Bool.{not}
-use mathlib.Core.List.{List}
-use native.Mathlib.Omega.{arith}
-use borrow.Author.Tests.{le-leb, lt-leb}
-use lib.ListN.{length, take, drop, length-take}
+use Rattle.laws.proofs.{ℕ, _-_, _≤_, _<_, _≡_, refl, sym, ap, subst, _∙_, not, List, arith, le-leb, lt-leb, length, take, drop, length-take}
 use lib.Seq.{take-at}
-use Rattle.refusals.specs.declared.Refusal.{Refusal}
-use Rattle.refusals.specs.declared.Refusal.the-variants.{TableColumn}
-use Rattle.refusals.specs.declared.Verdict.{Verdict}
-use Rattle.refusals.specs.declared.Verdict.the-variants.{Clear as Accepted, Turned as Refused}
-use Rattle.refusals.specs.Refusals.{numberOf, weighed, weighAll, smallest}
+use Rattle.refusals.specs.{Refusal, Verdict, numberOf, weighed, weighAll, smallest, Written, written, bufferAfter}
 use Rattle.refusals.proofs.Laws.{clear-before}
-use Rattle.refusals.specs.declared.Written.{Written}
-use Rattle.refusals.specs.declared.Written.the-variants.{Count, Refused as Unwritten}
-use Rattle.refusals.specs.Answers.{written, bufferAfter}
-use Rattle.schedules.specs.Schedules.{schedule6}
-use Rattle.table.specs.Participant.{longestTable, isTable, judged}
-use Rattle.table_bytes.specs.Bytes.{numbersOf, decodable}
+use Rattle.schedules.specs.{schedule6}
+use Rattle.table.specs.{longestTable, isTable, judged}
+use Rattle.table_bytes.specs.{numbersOf, decodable}
 use Rattle.table_bytes.proofs.Numbers.{number-count, clear-decodable}
-use Rattle.line_entry.specs.declared.Entry.{Entry}
-use Rattle.line_entry.specs.declared.Parsed.the-variants.{Taken}
-use Rattle.line.specs.Lines.{entryOf}
-use Rattle.holding.specs.declared.Area.{Area}
-use Rattle.holding.specs.declared.Holding.{Holding}
-use Rattle.holding.specs.declared.Found.{Found}
-use Rattle.holding.specs.declared.Found.the-variants.{At, Nowhere}
-use Rattle.holding.specs.Find.{findArea}
-use Rattle.holding_look.specs.declared.Looked.{Looked}
-use Rattle.holding_look.specs.Standing.{areaAt}
+use Rattle.line_entry.specs.{AreaAct, Entry, Parsed}
+use Rattle.line.specs.{entryOf}
+use Rattle.holding.specs.{Area, Holding, Found, findArea}
+use Rattle.holding_look.specs.{Looked, areaAt}
 use Rattle.holding_look.proofs.Laws.{looked-as}
-use Rattle.step_outcome.specs.declared.Outcome.{Outcome}
-use Rattle.step_outcome.specs.Outcomes.{placed}
-use Rattle.step.specs.Steps.{areaNamed, appliedTo, applied}
-use Rattle.table_grow.specs.declared.Grown.{Grown}
-use Rattle.table_grow.specs.Growing.{longerBy, growable, grownBy}
-use Rattle.table_grow.specs.Sorts.{columnOf}
+use Rattle.step_outcome.specs.{Outcome, placed}
+use Rattle.step.specs.{appliedTo, applied}
+use Rattle.table_grow.specs.{Grown, longerBy, growable, grownBy}
 use Rattle.table_grow.proofs.Fits.{grown-count, grown-front}
-use Rattle.statement.specs.declared.Read.{Read}
-use Rattle.statement.specs.Statement.{readOf}
-use Rattle.book_listing.specs.Listing.{entryTaken}
-use Rattle.statement_write.specs.Writable.{writable}
-use Rattle.call_output.specs.Outputs.{tableBytes, reportedBytes}
-use Rattle.call_line.specs.Call.{tableVerdict, smaller, foundBytes, entryBytes, withRoom, callVerdict, callBytes, callWeighed, callOutput}
-use Rattle.call_line.specs.Parts.{Gives, entryVerdict, columnVerdict, stepOutcome, stepVerdict, stepBytes}
-use Rattle.call_line.proofs.Sorts.{columnOutcome, column-taken, step-taken}
+use Rattle.statement.specs.{Read, readOf}
+use Rattle.book_listing.specs.{entryTaken}
+use Rattle.statement_write.specs.{writable}
+use Rattle.call_output.specs.{tableBytes, reportedBytes}
+use Rattle.call_line.specs.{tableVerdict, smaller, entryBytes, withRoom, callVerdict, callBytes, callWeighed, callOutput, Gives, entryVerdict, columnVerdict, stepOutcome, stepVerdict, stepBytes}
+use Rattle.call_line.proofs.Sorts.{columnOutcome}
 use Rattle.call_line.proofs.Smaller.{smaller-clear}
 use Rattle.call_line.proofs.Tables.{answered-verdict}
 use Rattle.call_line.proofs.Order.{entry-decides, entry-writes}
 
 -- ---- the smaller of two
 
-module _ (a b : Verdict) (first second : Refusal) (p : a ≡ Refused first) (q : b ≡ Refused second) where
-  pub first-least : numberOf first ≤ numberOf second → Refused first ≡ smaller a b
+module _ (a b : Verdict) (first second : Refusal) (p : a ≡ Verdict.Refused first) (q : b ≡ Verdict.Refused second) where
+  pub first-least : numberOf first ≤ numberOf second → Verdict.Refused first ≡ smaller a b
   first-least h = rw (p, q) (simp (le-leb (numberOf first) (numberOf second) h))
 
-  pub second-least : numberOf second < numberOf first → Refused second ≡ smaller a b
+  pub second-least : numberOf second < numberOf first → Verdict.Refused second ≡ smaller a b
   second-least h = rw (p, q) (simp (lt-leb (numberOf first) (numberOf second) h))
 
-pub only-first : (a b : Verdict) (first : Refusal) → a ≡ Refused first → b ≡ Accepted → Refused first ≡ smaller a b
+pub only-first : (a b : Verdict) (first : Refusal) → a ≡ Verdict.Refused first → b ≡ Verdict.Accepted → Verdict.Refused first ≡ smaller a b
 only-first a b first p q = rw (p, q)
 
 -- ---- bytes under a verdict
 
 module _ (v : Verdict) (bytes buffer : List ℕ) where
-  pub gives-refused : (r : Refusal) → v ≡ Refused r → Gives v bytes buffer (Unwritten r) buffer
+  pub gives-refused : (r : Refusal) → v ≡ Verdict.Refused r → Gives v bytes buffer (Written.Refused r) buffer
   unfolding withRoom weighed written bufferAfter
   gives-refused r e = record { told = rw e; left = rw e }
 
-  pub gives-written : (answer : Written) (after : List ℕ) → v ≡ Accepted → (answer ≡ written (writable bytes (length buffer)) bytes)
+  pub gives-written : (answer : Written) (after : List ℕ) → v ≡ Verdict.Accepted → (answer ≡ written (writable bytes (length buffer)) bytes)
       × (after ≡ bufferAfter (writable bytes (length buffer)) bytes buffer) → Gives v bytes buffer answer after
   unfolding withRoom writable smallest weighAll
   gives-written answer after e g = record { told = rw e (g .0); left = rw e (g .1) }
@@ -81,15 +57,15 @@ gives-as {v} {w} {xs} {ys} {buffer} {answer} {after} e f g =
 
 -- ---- a table
 
-written-refused : (v : Verdict) (numbers : List ℕ) (r : Refusal) → written v numbers ≡ Unwritten r → v ≡ Refused r
+written-refused : (v : Verdict) (numbers : List ℕ) (r : Refusal) → written v numbers ≡ Written.Refused r → v ≡ Verdict.Refused r
 unfolding written
-written-refused Accepted numbers r e = cc
-written-refused (Refused s) numbers r e = cc
+written-refused Verdict.Accepted numbers r e = cc
+written-refused (Verdict.Refused s) numbers r e = cc
 
-written-count : (v : Verdict) (numbers : List ℕ) (n : ℕ) → written v numbers ≡ Count n → (v ≡ Accepted) × (n ≡ length numbers)
+written-count : (v : Verdict) (numbers : List ℕ) (n : ℕ) → written v numbers ≡ Written.Count n → (v ≡ Verdict.Accepted) × (n ≡ length numbers)
 unfolding written
-written-count Accepted numbers n e = (refl, cc)
-written-count (Refused s) numbers n e = (cc, cc)
+written-count Verdict.Accepted numbers n e = (refl, cc)
+written-count (Verdict.Refused s) numbers n e = (cc, cc)
 
 -- what a table's bytes were decoded to, with room for the longest
 pub record Decoded (table numbers after : List ℕ) (decoded : Written) : Type 0 where
@@ -105,12 +81,12 @@ decoded-as table numbers after decoded long e f = record {
 }
 
 module _ {table numbers after : List ℕ} {decoded : Written} (d : Decoded table numbers after decoded) where
-  pub undecoded : (r : Refusal) → decoded ≡ Unwritten r → Unwritten r ≡ written (tableVerdict table) (numbersOf table)
+  pub undecoded : (r : Refusal) → decoded ≡ Written.Refused r → Written.Refused r ≡ written (tableVerdict table) (numbersOf table)
   unfolding tableVerdict weighed written
   undecoded r q = rw (written-refused (decodable table longestTable) (numbersOf table) r (sym (d .told) ∙ q))
 
-  module _ (n : ℕ) (q : decoded ≡ Count n) where
-    counted : (decodable table longestTable ≡ Accepted) × (n ≡ length (numbersOf table))
+  module _ (n : ℕ) (q : decoded ≡ Written.Count n) where
+    counted : (decodable table longestTable ≡ Verdict.Accepted) × (n ≡ length (numbersOf table))
     counted = written-count (decodable table longestTable) (numbersOf table) n (sym (d .told) ∙ q)
 
     pub decoded-few : n ≤ longestTable
@@ -125,31 +101,31 @@ module _ {table numbers after : List ℕ} {decoded : Written} (d : Decoded table
     module _ (v : Verdict) (h : v ≡ judged (take (n - 0) after)) where
       judged-by : v ≡ tableVerdict table
       unfolding tableVerdict judged smallest weighAll
-      judged-by = h ∙ ap judged decoded-front ∙ ap (λ (w : Verdict). weighed w (not (isTable (numbersOf table))) TableColumn) (sym (counted .0))
+      judged-by = h ∙ ap judged decoded-front ∙ ap (λ (w : Verdict). weighed w (not (isTable (numbersOf table))) Refusal.TableColumn) (sym (counted .0))
 
-      pub judged-refused : (r : Refusal) → v ≡ Refused r → Unwritten r ≡ written (tableVerdict table) (numbersOf table)
+      pub judged-refused : (r : Refusal) → v ≡ Verdict.Refused r → Written.Refused r ≡ written (tableVerdict table) (numbersOf table)
       unfolding written
       judged-refused r k = rw (sym judged-by ∙ k)
 
-      pub judged-clear : v ≡ Accepted → Count n ≡ written (tableVerdict table) (numbersOf table)
+      pub judged-clear : v ≡ Verdict.Accepted → Written.Count n ≡ written (tableVerdict table) (numbersOf table)
       unfolding written
-      judged-clear k = rw (sym judged-by ∙ k) (ap Count (counted .1))
+      judged-clear k = rw (sym judged-by ∙ k) (ap Written.Count (counted .1))
 
 -- what was read of a table, and the numbers lent on
-pub table-refused : (table : List ℕ) (own : Written) (r : Refusal) → own ≡ written (tableVerdict table) (numbersOf table) → own ≡ Unwritten r
-    → tableVerdict table ≡ Refused r
+pub table-refused : (table : List ℕ) (own : Written) (r : Refusal) → own ≡ written (tableVerdict table) (numbersOf table) → own ≡ Written.Refused r
+    → tableVerdict table ≡ Verdict.Refused r
 table-refused table own r e q = written-refused (tableVerdict table) (numbersOf table) r (sym e ∙ q)
 
 pub record TableRead (table : List ℕ) (n : ℕ) : Type 0 where
-  pub clear : tableVerdict table ≡ Accepted
+  pub clear : tableVerdict table ≡ Verdict.Accepted
   pub few : n ≤ longestTable
   pub front : (numbers after : List ℕ) → after ≡ bufferAfter (decodable table longestTable) (numbersOf table) numbers → take (n - 0) after ≡ numbersOf table
 
-pub table-read : (table : List ℕ) (own : Written) (n : ℕ) → own ≡ written (tableVerdict table) (numbersOf table) → own ≡ Count n → TableRead table n
+pub table-read : (table : List ℕ) (own : Written) (n : ℕ) → own ≡ written (tableVerdict table) (numbersOf table) → own ≡ Written.Count n → TableRead table n
 unfolding tableVerdict bufferAfter
 table-read table own n e q =
     let counted = written-count (tableVerdict table) (numbersOf table) n (sym e ∙ q) in
-    let decoded = clear-before (decodable table longestTable) (not (isTable (numbersOf table))) TableColumn (counted .0) in
+    let decoded = clear-before (decodable table longestTable) (not (isTable (numbersOf table))) Refusal.TableColumn (counted .0) in
     record {
       clear = counted .0;
       few = omega (arith, counted .1, number-count table, clear-decodable table longestTable decoded .1);
@@ -172,8 +148,8 @@ module _ (own statement line : List ℕ) (column : ℕ) (read : Read) (grown : G
       w ∙ ap (smaller (read .verdict)) grown-verdict
       ∙ ap (λ (x : Read). smaller (x .verdict) (growable own (x .holding .count) line column)) r
 
-  module _ (clear : v ≡ Accepted) where
-    grown-clear : growable own (read .holding .count) line column ≡ Accepted
+  module _ (clear : v ≡ Verdict.Accepted) where
+    grown-clear : growable own (read .holding .count) line column ≡ Verdict.Accepted
     grown-clear = sym grown-verdict ∙ smaller-clear (read .verdict) (grown .verdict) (sym w ∙ clear) .1
 
     pub column-front : take (grown .count - 0) (grown .numbers) ≡ longerBy own line column
@@ -191,72 +167,70 @@ module _ (own statement line : List ℕ) (column : ℕ) (read : Read) (grown : G
           length-take (grown .count - 0) (grown .numbers),
         )
 
--- ---- every other entry
+-- ---- an act on an area
 
 -- a step on the area that was looked up is a step of the holding
-pub step-looked : (own default : List ℕ) (holding : Holding) (entry : Entry) (number : ℕ) (found : Found) (area : Area) (outcome : Outcome)
-    → outcome ≡ appliedTo own default (record { count = holding .count; found = found; area = area }) entry
-    → number ≡ areaNamed entry → found ≡ findArea holding number → area ≡ areaAt holding found → outcome ≡ applied own default holding entry
+pub step-looked : (own default : List ℕ) (holding : Holding) (on : AreaAct) (found : Found) (area : Area) (outcome : Outcome)
+    → outcome ≡ appliedTo own default (record { count = holding .count; found = found; area = area }) on
+    → found ≡ findArea holding (on .area) → area ≡ areaAt holding found → outcome ≡ applied own default holding on
 unfolding applied
-step-looked own default holding entry number found area outcome o n f a =
-    o ∙ ap (λ (x : Looked). appliedTo own default x entry) (looked-as holding found _ area (f ∙ ap (findArea holding) n) a)
+step-looked own default holding on found area outcome o f a =
+    o ∙ ap (λ (x : Looked). appliedTo own default x on) (looked-as holding found _ area f a)
 
-module _ (own statement default : List ℕ) (entry : Entry) (read : Read) (outcome : Outcome) (v : Verdict) (r : read ≡ readOf statement)
-    (d : default ≡ schedule6) (o : outcome ≡ applied own default (read .holding) entry) (w : v ≡ smaller (read .verdict) (outcome .verdict)) where
-  outcome-is : outcome ≡ stepOutcome own statement entry
+module _ (own statement default : List ℕ) (on : AreaAct) (read : Read) (outcome : Outcome) (v : Verdict) (r : read ≡ readOf statement)
+    (d : default ≡ schedule6) (o : outcome ≡ applied own default (read .holding) on) (w : v ≡ smaller (read .verdict) (outcome .verdict)) where
+  outcome-is : outcome ≡ stepOutcome own statement on
   unfolding stepOutcome
-  outcome-is = o ∙ ap (λ (l : List ℕ). applied own l (read .holding) entry) d ∙ ap (λ (x : Read). applied own schedule6 (x .holding) entry) r
+  outcome-is = o ∙ ap (λ (l : List ℕ). applied own l (read .holding) on) d ∙ ap (λ (x : Read). applied own schedule6 (x .holding) on) r
 
-  pub step-weighed : v ≡ stepVerdict own statement entry
+  pub step-weighed : v ≡ stepVerdict own statement on
   unfolding stepVerdict
   step-weighed =
       w ∙ ap (λ (x : Outcome). smaller (read .verdict) (x .verdict)) outcome-is
-      ∙ ap (λ (x : Read). smaller (x .verdict) (stepOutcome own statement entry .verdict)) r
+      ∙ ap (λ (x : Read). smaller (x .verdict) (stepOutcome own statement on .verdict)) r
 
-  pub step-written : (after : Holding) → after ≡ placed (read .holding) outcome → reportedBytes after (outcome .report) ≡ stepBytes own statement entry
+  pub step-written : (after : Holding) → after ≡ placed (read .holding) outcome → reportedBytes after (outcome .report) ≡ stepBytes own statement on
   unfolding stepBytes
   step-written after p =
       ap (λ (h : Holding). reportedBytes h (outcome .report)) p
       ∙ ap (λ (x : Outcome). reportedBytes (placed (read .holding) x) (x .report)) outcome-is
-      ∙ ap (λ (x : Read). reportedBytes (placed (x .holding) (stepOutcome own statement entry)) (stepOutcome own statement entry .report)) r
+      ∙ ap (λ (x : Read). reportedBytes (placed (x .holding) (stepOutcome own statement on)) (stepOutcome own statement on .report)) r
 
--- ---- an entry, by its sort
+-- ---- an entry is a column, or an act
 
-module _ (own statement line : List ℕ) (entry : Entry) where
+module _ (own statement line : List ℕ) where
   abbrev carried-holding : Holding
   carried-holding = readOf statement .holding
 
-  pub column-verdict : (column : ℕ) → columnOf entry ≡ At column → columnVerdict own statement line column ≡ entryVerdict own statement line entry
-  unfolding columnVerdict entryVerdict
-  column-verdict column c =
+  pub column-verdict : (entry : Entry) (column : ℕ) → entry ≡ Entry.Column column → columnVerdict own statement line column ≡ entryVerdict own statement line entry
+  unfolding columnVerdict entryVerdict entryTaken
+  column-verdict entry column c =
       ap (smaller (readOf statement .verdict))
-      (sym (ap (λ (o : Outcome). o .verdict) (column-taken own carried-holding line entry column c .0)
-      ∙ answered-verdict (growable own (carried-holding .count) line column) (columnOutcome carried-holding) refl))
+      (sym (answered-verdict (growable own (carried-holding .count) line column) (columnOutcome carried-holding) refl))
+      ∙ ap (entryVerdict own statement line) (sym c)
 
-  pub column-bytes : (column : ℕ) → columnOf entry ≡ At column → tableBytes (longerBy own line column) ≡ entryBytes own carried-holding line entry
+  pub column-bytes : (entry : Entry) (column : ℕ) → entry ≡ Entry.Column column → tableBytes (longerBy own line column) ≡ entryBytes own carried-holding line entry
   unfolding entryBytes
-  column-bytes column c = ap (foundBytes own carried-holding line entry) (sym c)
+  column-bytes entry column c = ap (entryBytes own carried-holding line) (sym c)
 
-  pub step-verdict : columnOf entry ≡ Nowhere → stepVerdict own statement entry ≡ entryVerdict own statement line entry
-  unfolding stepVerdict stepOutcome entryVerdict
-  step-verdict c = ap (λ (o : Outcome). smaller (readOf statement .verdict) (o .verdict)) (sym (step-taken own carried-holding line entry c .0))
+  pub step-verdict : (entry : Entry) (on : AreaAct) → entry ≡ Entry.On on → stepVerdict own statement on ≡ entryVerdict own statement line entry
+  unfolding stepVerdict stepOutcome entryVerdict entryTaken
+  step-verdict entry on c = ap (entryVerdict own statement line) (sym c)
 
-  pub step-bytes : columnOf entry ≡ Nowhere → stepBytes own statement entry ≡ entryBytes own carried-holding line entry
+  pub step-bytes : (entry : Entry) (on : AreaAct) → entry ≡ Entry.On on → stepBytes own statement on ≡ entryBytes own carried-holding line entry
   unfolding stepBytes stepOutcome entryBytes
-  step-bytes c =
-      ap (λ (o : Outcome). reportedBytes (placed carried-holding o) (o .report)) (sym (step-taken own carried-holding line entry c .0))
-      ∙ ap (foundBytes own carried-holding line entry) (sym c)
+  step-bytes entry on c = ap (entryBytes own carried-holding line) (sym c)
 
 -- ---- the call
 
 module _ (statement table line out : List ℕ) where
-  pub call-refused : (r : Refusal) → callVerdict statement table line ≡ Refused r
-      → (Unwritten r ≡ written (callWeighed statement table line (length out)) (callBytes statement table line)) × (out ≡ callOutput statement table line out)
+  pub call-refused : (r : Refusal) → callVerdict statement table line ≡ Verdict.Refused r
+      → (Written.Refused r ≡ written (callWeighed statement table line (length out)) (callBytes statement table line)) × (out ≡ callOutput statement table line out)
   unfolding callWeighed callOutput
   call-refused r e =
       let g = gives-refused (callVerdict statement table line) (callBytes statement table line) out r e in (g .told, g .left)
 
-  pub call-given : (entry : Entry) (own : List ℕ) (answer : Written) (after : List ℕ) → entryOf line ≡ Taken entry → tableVerdict table ≡ Accepted
+  pub call-given : (entry : Entry) (own : List ℕ) (answer : Written) (after : List ℕ) → entryOf line ≡ Parsed.Taken entry → tableVerdict table ≡ Verdict.Accepted
       → own ≡ numbersOf table → Gives (entryVerdict own statement line entry) (entryBytes own (readOf statement .holding) line entry) out answer after
       → (answer ≡ written (callWeighed statement table line (length out)) (callBytes statement table line)) × (after ≡ callOutput statement table line out)
   unfolding callWeighed callOutput entryVerdict

@@ -1,20 +1,10 @@
 -- Tables of cases whose numbers lie from a number on, or up to one, but for cases that do not apply: so does the refusal given.
-use Prim.Native.Nat.{ℕ, _≤_}
-use mathlib.Core.Path.{_≡_, refl, sym, ap, _∙_}
-use mathlib.Core.Bool.{Bool, true, false, not, _&&_, _||_}
-use mathlib.Core.List.{List, [], _∷_}
-use native.Mathlib.Omega.{arith}
-use borrow.Author.Tests.{leb-true}
-use lib.Dec.{leb}
+use Rattle.laws.proofs.{ℕ, _≤_, _≡_, refl, sym, ap, _∙_, Bool, true, false, not, _&&_, _||_, List, [], _∷_, arith, leb-true, leb}
 use Rattle.laws.proofs.Elements.{or-none}
 use Rattle.laws.proofs.Lists.{and-left, and-right}
-use Rattle.refusals.specs.declared.Refusal.{Refusal}
-use Rattle.refusals.specs.declared.Verdict.{Verdict}
-use Rattle.refusals.specs.declared.Verdict.the-variants.{Clear as Accepted, Turned as Refused}
-use Rattle.refusals.specs.Refusals.{numberOf, Case, weighed, weighAll, smallest}
+use Rattle.refusals.specs.{Refusal, Verdict, numberOf, Case, weighed, weighAll, smallest}
 use Rattle.refusals.proofs.Smallest.{turned-stands}
-use Rattle.step_outcome.specs.declared.Outcome.{Outcome}
-use Rattle.step_outcome.specs.Outcomes.{answered}
+use Rattle.step_outcome.specs.{Outcome, answered}
 use Rattle.call_line.proofs.Smaller.{From}
 
 unfoldable pub startsAt : ℕ → List Case → Bool
@@ -29,24 +19,24 @@ starts-from n (c ∷ cs) e = go (c .applies) (and-left first (startsAt n cs) e) 
     first : Bool
     first = leb n (numberOf (c .refusal)) || not (c .applies)
 
-    go : (t : Bool) → (leb n (numberOf (c .refusal)) || not t) ≡ true → From n (weighAll Accepted cs) → From n (weighAll (weighed Accepted t (c .refusal)) cs)
+    go : (t : Bool) → (leb n (numberOf (c .refusal)) || not t) ≡ true → From n (weighAll Verdict.Accepted cs) → From n (weighAll (weighed Verdict.Accepted t (c .refusal)) cs)
     go true h rest = rw (turned-stands (c .refusal) cs) (leb-true n (numberOf (c .refusal)) (sym (or-none (leb n (numberOf (c .refusal)))) ∙ h))
     go false h rest = rest
 
 -- one case more
 pub weighed-from : (n : ℕ) (v : Verdict) (b : Bool) (r : Refusal) → From n v → n ≤ numberOf r → From n (weighed v b r)
 unfolding weighed
-weighed-from n (Refused s) b r f h = f
-weighed-from n Accepted true r f h = h
-weighed-from n Accepted false r f h = tt
+weighed-from n (Verdict.Refused s) b r f h = f
+weighed-from n Verdict.Accepted true r f h = h
+weighed-from n Verdict.Accepted false r f h = tt
 
 -- what a verdict makes of an accepted outcome has the verdict
-pub answered-verdict : (v : Verdict) (outcome : Outcome) → outcome .verdict ≡ Accepted → answered v outcome .verdict ≡ v
+pub answered-verdict : (v : Verdict) (outcome : Outcome) → outcome .verdict ≡ Verdict.Accepted → answered v outcome .verdict ≡ v
 unfolding answered
-answered-verdict Accepted outcome e = e
-answered-verdict (Refused r) outcome e = refl
+answered-verdict Verdict.Accepted outcome e = e
+answered-verdict (Verdict.Refused r) outcome e = refl
 
-pub answered-from : (n : ℕ) (cs : List Case) (outcome : Outcome) → outcome .verdict ≡ Accepted → startsAt n cs ≡ true
+pub answered-from : (n : ℕ) (cs : List Case) (outcome : Outcome) → outcome .verdict ≡ Verdict.Accepted → startsAt n cs ≡ true
     → From n (answered (smallest cs) outcome .verdict)
 answered-from n cs outcome e s = rw (answered-verdict (smallest cs) outcome e) (starts-from n cs s)
 
@@ -54,12 +44,12 @@ unfoldable pub endsAt : ℕ → List Case → Bool
 endsAt n [] = true
 endsAt n (c ∷ cs) = leb (numberOf (c .refusal)) n && endsAt n cs
 
-pub ends-by : (n : ℕ) (cs : List Case) (r : Refusal) → endsAt n cs ≡ true → smallest cs ≡ Refused r → numberOf r ≤ n
+pub ends-by : (n : ℕ) (cs : List Case) (r : Refusal) → endsAt n cs ≡ true → smallest cs ≡ Verdict.Refused r → numberOf r ≤ n
 unfolding endsAt smallest weighAll weighed
 ends-by n [] r e q = let z : _≡_ {A = ℕ} 0 1 = cc in absurd (omega arith)
 ends-by n (c ∷ cs) r e q = go (c .applies) q (ends-by n cs r (and-right (leb (numberOf (c .refusal)) n) (endsAt n cs) e))
   where
-    go : (t : Bool) → weighAll (weighed Accepted t (c .refusal)) cs ≡ Refused r → (weighAll Accepted cs ≡ Refused r → numberOf r ≤ n) → numberOf r ≤ n
+    go : (t : Bool) → weighAll (weighed Verdict.Accepted t (c .refusal)) cs ≡ Verdict.Refused r → (weighAll Verdict.Accepted cs ≡ Verdict.Refused r → numberOf r ≤ n) → numberOf r ≤ n
     go true q rest =
         let same : c .refusal ≡ r = cc (turned-stands (c .refusal) cs) in
         omega (arith, leb-true (numberOf (c .refusal)) n (and-left (leb (numberOf (c .refusal)) n) (endsAt n cs) e), ap numberOf same)

@@ -1,30 +1,32 @@
 // The call of a recorder's own program: its verdict, and what it writes.
 ghost use mathlib.Core.Path.{_≡_};
 ghost use lib.ListN.{length};
-ghost use Rattle.refusals.specs.Answers.{written, bufferAfter};
-ghost use Rattle.table.specs.Participant.{longestTable};
-ghost use Rattle.table_bytes.specs.Bytes.{numbersOf, decodable};
-ghost use Rattle.table_grow.specs.Growing.{longerBy};
-ghost use Rattle.statement.specs.Statement.{readOf};
-ghost use Rattle.call_output.specs.Outputs.{tableBytes};
-ghost use Rattle.call_line.specs.Call.{tableVerdict, smaller, entryBytes, callBytes, callWeighed, callOutput};
-ghost use Rattle.call_line.specs.Parts.{Gives, refusedBy, entryVerdict, columnVerdict, stepVerdict, stepBytes};
+ghost use Rattle.refusals.specs.{written, bufferAfter};
+ghost use Rattle.table.specs.{longestTable};
+ghost use Rattle.table_bytes.specs.{numbersOf, decodable};
+ghost use Rattle.table_grow.specs.{longerBy};
+ghost use Rattle.statement.specs.{readOf};
+ghost use Rattle.call_output.specs.{tableBytes};
+ghost use Rattle.call_line.specs.{tableVerdict, smaller, entryBytes, callBytes, callWeighed, callOutput, Gives, refusedBy, entryVerdict, columnVerdict, stepVerdict, stepBytes};
 use holding::Found;
+use holding::MOST_AREAS;
 use holding_look::Looked;
+use line_entry::AreaAct;
 use line_entry::Entry;
 use line_entry::Parsed;
 use refusals::Verdict;
 use refusals::Written;
+use table::LONGEST_TABLE;
 
 // Of two verdicts the refusal with the smaller number.
 fn least(a: Verdict, b: Verdict) -> Verdict
     ensures { λ r. ⌜ r ≡ smaller a b ⌝ }
 {
     match a {
-        Verdict::Clear => b,
-        Verdict::Turned(first) => match b {
-            Verdict::Clear => a,
-            Verdict::Turned(second) => {
+        Verdict::Accepted => b,
+        Verdict::Refused(first) => match b {
+            Verdict::Accepted => a,
+            Verdict::Refused(second) => {
                 if refusals::number(first) <= refusals::number(second) {
                     return a;
                 }
@@ -39,7 +41,7 @@ fn refused_by(parsed: Parsed) -> Written
     ensures { λ r. ⌜ r ≡ refusedBy parsed ⌝ }
 {
     match parsed {
-        Parsed::Turned(refusal) => Written::Refused(refusal),
+        Parsed::Refused(refusal) => Written::Refused(refusal),
         Parsed::Taken(_) => Written::Count(0),
     }
 }
@@ -56,8 +58,8 @@ fn read_table(table: &[u8], numbers: &mut [u16]) -> Written
         Written::Count(count) => {
             let v = table::judge(&numbers[0..count]);
             match v {
-                Verdict::Turned(refusal) => Written::Refused(refusal),
-                Verdict::Clear => Written::Count(count),
+                Verdict::Refused(refusal) => Written::Refused(refusal),
+                Verdict::Accepted => Written::Count(count),
             }
         }
     }
@@ -74,8 +76,8 @@ fn take_column(statement: &[u8], own: &[u16], line: &[u8], column: usize, out: &
     let grown_verdict = grown.verdict;
     let v = least(read_verdict, grown_verdict);
     match v {
-        Verdict::Turned(refusal) => Written::Refused(refusal),
-        Verdict::Clear => {
+        Verdict::Refused(refusal) => Written::Refused(refusal),
+        Verdict::Accepted => {
             let count = grown.count;
             let numbers = grown.numbers;
             call_output::write_table(&numbers[0..count], out)
@@ -83,18 +85,18 @@ fn take_column(statement: &[u8], own: &[u16], line: &[u8], column: usize, out: &
     }
 }
 
-// Every other entry: a step of the holding that the statement carries.
-fn take_step(statement: &[u8], own: &[u16], entry: Entry, out: &mut [u8]) -> Written
-    ensures { λ r. ⌜ Gives (stepVerdict (now (own .entry)) (now (statement .entry)) entry) (stepBytes (now (own .entry)) (now (statement .entry)) entry) (now (out .entry)) r (now (out .exit)) ⌝ }
+// An act on an area: a step of the holding that the statement carries.
+fn take_step(statement: &[u8], own: &[u16], on: AreaAct, out: &mut [u8]) -> Written
+    ensures { λ r. ⌜ Gives (stepVerdict (now (own .entry)) (now (statement .entry)) on) (stepBytes (now (own .entry)) (now (statement .entry)) on) (now (out .entry)) r (now (out .exit)) ⌝ }
 {
     let read = statement::read_from(statement);
     let read_verdict = read.verdict;
     let mut holding = read.holding;
     let default = schedules::schedule_six();
-    let found = holding::find_area(holding, step::area_named(entry));
+    let found = holding::find_area(holding, on.area);
     let mut named = holding::empty_area();
     if let Found::At(k) = found {
-        if k < 16 {
+        if k < MOST_AREAS {
             named = holding.areas[k];
         }
     }
@@ -103,16 +105,16 @@ fn take_step(statement: &[u8], own: &[u16], entry: Entry, out: &mut [u8]) -> Wri
         found,
         area: named,
     };
-    let outcome = step::apply_to(own, &default, looked, entry);
+    let outcome = step::apply_to(own, &default, looked, on);
     let step_verdict = outcome.verdict;
     let v = least(read_verdict, step_verdict);
     match v {
-        Verdict::Turned(refusal) => Written::Refused(refusal),
-        Verdict::Clear => {
+        Verdict::Refused(refusal) => Written::Refused(refusal),
+        Verdict::Accepted => {
             let place = outcome.place;
             if let Found::At(k) = place {
                 let area = outcome.area;
-                if k < 16 {
+                if k < MOST_AREAS {
                     holding.areas[k] = area;
                 }
                 holding.count = outcome.count;
@@ -126,10 +128,9 @@ fn take_step(statement: &[u8], own: &[u16], entry: Entry, out: &mut [u8]) -> Wri
 fn take_entry(statement: &[u8], own: &[u16], line: &[u8], entry: Entry, out: &mut [u8]) -> Written
     ensures { λ r. ⌜ Gives (entryVerdict (now (own .entry)) (now (statement .entry)) (now (line .entry)) entry) (entryBytes (now (own .entry)) (readOf (now (statement .entry)) .holding) (now (line .entry)) entry) (now (out .entry)) r (now (out .exit)) ⌝ }
 {
-    let found = table_grow::column_of(entry);
-    match found {
-        Found::At(column) => take_column(statement, own, line, column, out),
-        Found::Nowhere => take_step(statement, own, entry, out),
+    match entry {
+        Entry::Column { column } => take_column(statement, own, line, column, out),
+        Entry::On(on) => take_step(statement, own, on, out),
     }
 }
 
@@ -142,7 +143,7 @@ pub fn call(statement: &[u8], table: &[u8], line: &[u8], out: &mut [u8]) -> Writ
     let Parsed::Taken(entry) = parsed else {
         return refused_by(parsed);
     };
-    let mut numbers = [0u16; 1020];
+    let mut numbers = [0u16; LONGEST_TABLE];
     let own = read_table(table, &mut numbers);
     match own {
         Written::Refused(refusal) => Written::Refused(refusal),

@@ -1,20 +1,10 @@
 -- The bytes of a table, two a turn as the loop goes.
-use Prim.Native.Nat.{ℕ, suc, _+_, _*_, _/_, _%_, _≤_, _<_}
-use mathlib.Core.Path.{_≡_, refl, sym, ap, _∙_}
-use mathlib.Core.List.{List, [], _∷_}
-use native.Mathlib.Numerals.{add-one}
-use native.Mathlib.Omega.{arith}
-use borrow.Author.Tests.{lt-ltb, le-ltb}
-use lib.ListN.{length, getD, set, drop, drop-of-length-le}
-use lib.Seq.{drop-cons, sets}
+use Rattle.laws.proofs.{ℕ, suc, _+_, _*_, _/_, _%_, _≤_, _<_, _≡_, refl, sym, ap, _∙_, List, [], _∷_, add-one, arith, lt-ltb, le-ltb, length, getD, set, drop, drop-of-length-le, drop-cons, sets}
 use Rattle.laws.proofs.Stores.{stored-in-front}
-use Rattle.refusals.specs.declared.Refusal.the-variants.{OutputShort}
-use Rattle.refusals.specs.Refusals.{weighed, weighAll, smallest}
-use Rattle.refusals.specs.declared.Written.the-variants.{Count, Refused}
-use Rattle.refusals.specs.Answers.{written, bufferAfter}
+use Rattle.refusals.specs.{weighed, weighAll, smallest, written, bufferAfter, Refusal, Written}
 use Rattle.refusals.proofs.Answers.{when-turned, when-clear}
-use Rattle.statement_write.specs.Writable.{writable}
-use Rattle.call_output.specs.Outputs.{tableBytes}
+use Rattle.statement_write.specs.{writable}
+use Rattle.call_output.specs.{tableBytes}
 
 pub bytes-length : (numbers : List ℕ) → length (tableBytes numbers) ≡ 2 * length numbers
 unfolding tableBytes
@@ -38,15 +28,15 @@ module _ (numbers : List ℕ) (i : ℕ) where
 -- by the room for them
 module _ (numbers out : List ℕ) where
   pub no-room : length out / 2 < length numbers
-      → (Refused OutputShort ≡ written (writable (tableBytes numbers) (length out)) (tableBytes numbers))
+      → (Written.Refused Refusal.OutputShort ≡ written (writable (tableBytes numbers) (length out)) (tableBytes numbers))
       × (out ≡ bufferAfter (writable (tableBytes numbers) (length out)) (tableBytes numbers) out)
   unfolding writable smallest weighAll weighed
   no-room h =
-      when-turned (writable (tableBytes numbers) (length out)) (tableBytes numbers) out OutputShort
+      when-turned (writable (tableBytes numbers) (length out)) (tableBytes numbers) out Refusal.OutputShort
       (simp (lt-ltb (length out) (length (tableBytes numbers)) (omega (arith, bytes-length numbers))))
 
   pub enough-room : length numbers ≤ length out / 2 → (after : List ℕ) → after ≡ sets out 0 (tableBytes numbers)
-      → (Count (2 * length numbers) ≡ written (writable (tableBytes numbers) (length out)) (tableBytes numbers))
+      → (Written.Count (2 * length numbers) ≡ written (writable (tableBytes numbers) (length out)) (tableBytes numbers))
       × (after ≡ bufferAfter (writable (tableBytes numbers) (length out)) (tableBytes numbers) out)
   unfolding writable smallest weighAll weighed
   enough-room h after e =

@@ -1,1 +1,3 @@
 pub mod Outputs
+pub use Outputs.{reportedBytes, reportedWidth}
+unfoldable pub use Outputs.{tableBytes}

@@ -3,10 +3,10 @@ ghost use mathlib.Core.Path.{_≡_};
 ghost use Prim.Native.Nat.{_*_, _≤_};
 ghost use lib.ListN.{length};
 ghost use lib.Seq.{sets};
-ghost use Rattle.refusals.specs.Answers.{written, bufferAfter};
-ghost use Rattle.statement_field.specs.Put.{Put};
-ghost use Rattle.statement_write.specs.Writable.{writable};
-ghost use Rattle.call_output.specs.Outputs.{tableBytes, reportedBytes};
+ghost use Rattle.refusals.specs.{written, bufferAfter};
+ghost use Rattle.statement_field.specs.{Put};
+ghost use Rattle.statement_write.specs.{writable};
+ghost use Rattle.call_output.specs.{tableBytes, reportedBytes, reportedWidth};
 use holding::Holding;
 use refusals::Refusal;
 use refusals::Written;
@@ -41,14 +41,14 @@ pub fn write_table(numbers: &[u16], out: &mut [u8]) -> Written
 
 // Puts a statement and a report at a place; the answer is the place after them.
 fn put_reported(out: &mut [u8], at: usize, holding: Holding, report: Report) -> usize
-    ensures { λ r. ⌜ Put 15888 (now (out .entry)) at (reportedBytes holding report) (now (out .exit)) r ⌝ }
+    ensures { λ r. ⌜ Put reportedWidth (now (out .entry)) at (reportedBytes holding report) (now (out .exit)) r ⌝ }
 {
     let next = statement_write::put_statement(out, at, holding);
     book_print::put_report(out, next, report)
 }
 
 // Room for any statement and report, in bytes.
-const ROOM: usize = 15888;
+const ROOM: usize = statement_write::STATEMENT_WIDTH + book_print::REPORT_WIDTH;
 
 // Writes a statement and a report to the front of `out`: how many bytes they have, or why they are not written. Where there is room for any they are not measured.
 pub fn write_reported(holding: Holding, report: Report, out: &mut [u8]) -> Written

@@ -1,9 +1,6 @@
 -- An `i64` that is minus a small number.
-use mathlib.Core.Path.{_≡_, refl, sym, ap, subst, _∙_}
-use Prim.Native.Nat.{ℕ, zero, suc, _<_, _^_}
-use native.Mathlib.Omega.{arith}
+use Rattle.laws.proofs.{_≡_, refl, sym, ap, subst, _∙_, ℕ, zero, suc, _<_, _^_, arith, lt-ltb}
 use lib.IntN.{ℤ, pos, negsuc, negℤ, _-ℤ_}
-use borrow.Author.Tests.{lt-ltb}
 use mir.Syntax.{w64}
 use mir.Val.{SFits, toZ, ofZ}
 use mir.Facts.{toZ-ofZ, toZ-pos}

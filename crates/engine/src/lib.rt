@@ -2,8 +2,8 @@
 ghost use mathlib.Core.Path.{_≡_};
 ghost use lib.IntN.{negℤ, pos};
 ghost use lib.ListN.{length};
-ghost use Rattle.refusals.specs.Refusals.{numberOf};
-ghost use Rattle.call_line.specs.Call.{callAnswer, callOutput};
+ghost use Rattle.refusals.specs.{numberOf};
+ghost use Rattle.call_line.specs.{callAnswer, callOutput};
 use refusals::Refusal;
 use refusals::Written;
 
@@ -15,7 +15,7 @@ fn minus(refusal: Refusal) -> i64
 }
 
 // Takes a line by a statement and a table. `out` takes the new statement and then the report of an R or W line, or the longer table of a T line:
-// the answer is how many bytes, at most 12288, or below 0 the number of the refusal, which leaves `out` as it was.
+// the answer is how many bytes, at most 11921, or below 0 the number of the refusal, which leaves `out` as it was.
 #[no_mangle]
 pub extern "C" fn carbon_account_line(
     statement: &[u8],

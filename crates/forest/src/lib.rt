@@ -1,7 +1,6 @@
 // Forest types: their letters, read and written, and their order.
 ghost use mathlib.Core.Path.{_≡_};
-ghost use Rattle.forest.specs.Letters.{regionNumber, digitOf, lettersWritten, letterNames, regionNames, named};
-ghost use Rattle.forest.specs.Order.{orderOf, sameType};
+ghost use Rattle.forest.specs.{regionNumber, digitOf, lettersWritten, letterNames, regionNames, named, orderOf, sameType};
 
 pub enum Region {
     Auckland,

@@ -1,10 +1,14 @@
 // The state of the accounts: a holding of accounting areas, each of sub-areas, by value.
 ghost use mathlib.Core.Path.{_≡_};
-ghost use Rattle.holding.specs.Holding.{emptySub, emptyArea, emptyHolding};
-ghost use Rattle.holding.specs.Find.{findArea, findSub};
+ghost use Rattle.holding.specs.{emptySub, emptyArea, emptyHolding, findArea, findSub};
 use forest::Forest;
 use units::Kilograms;
 use units::Tenths;
+
+// The most areas that a holding has, and the most sub-areas that an area has.
+pub const MOST_AREAS: usize = 16;
+
+pub const MOST_SUBS: usize = 16;
 
 // What is left of the latest clearing: the type and age of the trees cleared, and the year. Bare land where there is none.
 pub struct Residue {
@@ -34,13 +38,13 @@ pub struct Area {
     pub received: u64,
     pub surrendered: u64,
     pub count: usize,
-    pub subs: [Sub; 16],
+    pub subs: [Sub; MOST_SUBS],
 }
 
 // The first `count` areas stand; the other places hold the empty area.
 pub struct Holding {
     pub count: usize,
-    pub areas: [Area; 16],
+    pub areas: [Area; MOST_AREAS],
 }
 
 // A place in a list, if there is one.
@@ -79,7 +83,7 @@ pub fn empty_area() -> Area
         received: 0,
         surrendered: 0,
         count: 0,
-        subs: [empty_sub(); 16],
+        subs: [empty_sub(); MOST_SUBS],
     }
 }
 
@@ -88,7 +92,7 @@ pub fn empty_holding() -> Holding
 {
     Holding {
         count: 0,
-        areas: [empty_area(); 16],
+        areas: [empty_area(); MOST_AREAS],
     }
 }
 
@@ -98,7 +102,7 @@ pub fn find_area(holding: Holding, number: u16) -> Found
 {
     let n = holding.count;
     let mut i: usize = 0;
-    while i < 16 {
+    while i < MOST_AREAS {
         if n <= i {
             return Found::Nowhere;
         }
@@ -116,7 +120,7 @@ pub fn find_sub(area: Area, number: u8) -> Found
 {
     let n = area.count;
     let mut i: usize = 0;
-    while i < 16 {
+    while i < MOST_SUBS {
         if n <= i {
             return Found::Nowhere;
         }

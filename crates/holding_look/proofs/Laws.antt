@@ -1,29 +1,20 @@
 -- What a search found, taken from the array, or put back into it.
-use Prim.Native.Nat.{ℕ, _<_, _≤_}
-use mathlib.Core.Path.{_≡_, sym, ap, _∙_}
-use mathlib.Core.List.{List}
-use lib.ListN.{length, getD, set, List·getD-eq-default}
-use lib.Seq.{set-out}
+use Rattle.laws.proofs.{ℕ, _<_, _≤_, _≡_, sym, ap, _∙_, List, length, getD, set, set-out}
+use lib.ListN.{List·getD-eq-default}
 use Rattle.laws.proofs.Standing.{getD-same}
-use Rattle.holding.specs.declared.Sub.{Sub}
-use Rattle.holding.specs.declared.Area.{Area}
-use Rattle.holding.specs.declared.Holding.{Holding}
-use Rattle.holding.specs.declared.Found.{Found}
-use Rattle.holding.specs.declared.Found.the-variants.{At, Nowhere}
-use Rattle.holding.specs.Holding.{emptySub, emptyArea}
-use Rattle.holding_look.specs.declared.Looked.{Looked}
-use Rattle.holding_look.specs.Standing.{areaAt, lookedAt, subAt, withSub}
+use Rattle.holding.specs.{Sub, Area, Holding, Found, emptySub, emptyArea}
+use Rattle.holding_look.specs.{Looked, areaAt, lookedAt, subAt, withSub}
 
 module _ (holding : Holding) (found : Found) where
-  pub area-here : (i : ℕ) (d : Area) → found ≡ At i → i < length (holding .areas) → getD (holding .areas) i d ≡ areaAt holding found
+  pub area-here : (i : ℕ) (d : Area) → found ≡ Found.At i → i < length (holding .areas) → getD (holding .areas) i d ≡ areaAt holding found
   unfolding areaAt
   area-here i d e h = rw e (getD-same (holding .areas) i d emptyArea h)
 
-  pub area-out : (i : ℕ) → found ≡ At i → length (holding .areas) ≤ i → emptyArea ≡ areaAt holding found
+  pub area-out : (i : ℕ) → found ≡ Found.At i → length (holding .areas) ≤ i → emptyArea ≡ areaAt holding found
   unfolding areaAt
   area-out i e h = rw e (sym (List·getD-eq-default (holding .areas) emptyArea h))
 
-  pub area-nowhere : found ≡ Nowhere → emptyArea ≡ areaAt holding found
+  pub area-nowhere : found ≡ Found.Nowhere → emptyArea ≡ areaAt holding found
   unfolding areaAt
   area-nowhere e = simp e
 
@@ -35,15 +26,15 @@ looked-as holding found place area f a =
     ap with a ∙ ap (lookedAt holding) f
 
 module _ (area : Area) (found : Found) where
-  pub sub-here : (i : ℕ) (d : Sub) → found ≡ At i → i < length (area .subs) → getD (area .subs) i d ≡ subAt area found
+  pub sub-here : (i : ℕ) (d : Sub) → found ≡ Found.At i → i < length (area .subs) → getD (area .subs) i d ≡ subAt area found
   unfolding subAt
   sub-here i d e h = rw e (getD-same (area .subs) i d emptySub h)
 
-  pub sub-out : (i : ℕ) → found ≡ At i → length (area .subs) ≤ i → emptySub ≡ subAt area found
+  pub sub-out : (i : ℕ) → found ≡ Found.At i → length (area .subs) ≤ i → emptySub ≡ subAt area found
   unfolding subAt
   sub-out i e h = rw e (sym (List·getD-eq-default (area .subs) emptySub h))
 
-  pub sub-nowhere : found ≡ Nowhere → emptySub ≡ subAt area found
+  pub sub-nowhere : found ≡ Found.Nowhere → emptySub ≡ subAt area found
   unfolding subAt
   sub-nowhere e = simp e
 
@@ -64,14 +55,14 @@ after area year subs = record {
 }
 
 module _ (area : Area) (found : Found) (sub : Sub) (year : ℕ) where
-  pub put-here : (i : ℕ) → found ≡ At i → after area year (set (area .subs) i sub) ≡ withSub area found sub year
+  pub put-here : (i : ℕ) → found ≡ Found.At i → after area year (set (area .subs) i sub) ≡ withSub area found sub year
   unfolding withSub
   put-here i e = simp e
 
-  pub put-out : (i : ℕ) → found ≡ At i → length (area .subs) ≤ i → after area year (area .subs) ≡ withSub area found sub year
+  pub put-out : (i : ℕ) → found ≡ Found.At i → length (area .subs) ≤ i → after area year (area .subs) ≡ withSub area found sub year
   unfolding withSub
   put-out i e h = rw e (ap (after area year) (sym (set-out (area .subs) i sub h)))
 
-  pub put-nowhere : found ≡ Nowhere → after area year (area .subs) ≡ withSub area found sub year
+  pub put-nowhere : found ≡ Found.Nowhere → after area year (area .subs) ≡ withSub area found sub year
   unfolding withSub
   put-nowhere e = simp e

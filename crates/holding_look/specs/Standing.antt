@@ -1,25 +1,16 @@
 -- What stands at a place that a search found, an area looked up by its number, and the area with a sub-area put back.
-use Prim.Native.Nat.{ℕ, _-_}
-use mathlib.Core.Bool.{Bool, true, false}
-use mathlib.Core.List.{List}
-use lib.ListN.{getD, set}
-use Rattle.holding.specs.declared.Sub.{Sub}
-use Rattle.holding.specs.declared.Area.{Area}
-use Rattle.holding.specs.declared.Holding.{Holding}
-use Rattle.holding.specs.declared.Found.{Found}
-use Rattle.holding.specs.declared.Found.the-variants.{At, Nowhere}
-use Rattle.holding.specs.Holding.{emptySub, emptyArea}
-use Rattle.holding.specs.Find.{findArea}
+use Rattle.laws.specs.{ℕ, _-_, Bool, true, false, List, getD, set}
+use Rattle.holding.specs.{Sub, Area, Holding, Found, emptySub, emptyArea, withSubs, withLatest, findArea}
 use Rattle.holding_look.specs.declared.Looked.{Looked}
 
 abbrev pub known : Found → Bool
-known (At i) = true
-known Nowhere = false
+known (Found.At i) = true
+known Found.Nowhere = false
 
 -- the area there, the empty one where none stands
 unfoldable pub areaAt : Holding → Found → Area
-areaAt holding (At i) = getD (holding .areas) i emptyArea
-areaAt holding Nowhere = emptyArea
+areaAt holding (Found.At i) = getD (holding .areas) i emptyArea
+areaAt holding Found.Nowhere = emptyArea
 
 -- what a step is given of a holding: how many areas stand, and the one area at a place
 abbrev pub lookedAt : Holding → Found → Looked
@@ -30,30 +21,18 @@ abbrev pub lookedUp : Holding → ℕ → Looked
 lookedUp holding number = lookedAt holding (findArea holding number)
 
 unfoldable pub subAt : Area → Found → Sub
-subAt area (At i) = getD (area .subs) i emptySub
-subAt area Nowhere = emptySub
+subAt area (Found.At i) = getD (area .subs) i emptySub
+subAt area Found.Nowhere = emptySub
 
 -- the units that an area has: "units received less units surrendered"
 abbrev pub balanceOf : Area → ℕ
 balanceOf area = area .received - area .surrendered
 
 abbrev pub subsWith : List Sub → Found → Sub → List Sub
-subsWith subs (At i) sub = set subs i sub
-subsWith subs Nowhere sub = subs
+subsWith subs (Found.At i) sub = set subs i sub
+subsWith subs Found.Nowhere sub = subs
 
 -- the area with a sub-area put back at its place, after a clearing or planting in a year; the year is the greatest, since 31 refuses
 -- one before the latest
 unfoldable pub withSub : Area → Found → Sub → ℕ → Area
-withSub area found sub year = record {
-  number = area .number;
-  opening = area .opening;
-  «open_year» = area .«open_year»;
-  latest = year;
-  withdrawn = area .withdrawn;
-  returns = area .returns;
-  stock = area .stock;
-  received = area .received;
-  surrendered = area .surrendered;
-  count = area .count;
-  subs = subsWith (area .subs) found sub;
-}
+withSub area found sub year = withLatest year (withSubs (area .count) (subsWith (area .subs) found sub) area)

@@ -1,11 +1,13 @@
 // What stands at a place that a search found, an area looked up by its number, and an area with a sub-area put back.
 ghost use mathlib.Core.Path.{_≡_};
 ghost use Prim.Native.Nat.{_<_};
-ghost use Rattle.holding.specs.declared.Found.the-variants.{At};
-ghost use Rattle.holding_look.specs.Standing.{known, areaAt, lookedUp, subAt, withSub};
+ghost use Rattle.holding.specs.{mostAreas};
+ghost use Rattle.holding_look.specs.{known, areaAt, lookedUp, subAt, withSub};
 use holding::Area;
 use holding::Found;
 use holding::Holding;
+use holding::MOST_AREAS;
+use holding::MOST_SUBS;
 use holding::Sub;
 
 pub fn is_known(found: Found) -> bool
@@ -19,8 +21,8 @@ pub fn is_known(found: Found) -> bool
 
 // The area at a place: the holding is copied only where there is one.
 fn area_in(holding: Holding, i: usize) -> Area
-    requires { ⌜ i < 16 ⌝ }
-    ensures { λ r. ⌜ r ≡ areaAt holding (At i) ⌝ }
+    requires { ⌜ i < mostAreas ⌝ }
+    ensures { λ r. ⌜ r ≡ areaAt holding (Found.At i) ⌝ }
 {
     holding.areas[i]
 }
@@ -31,7 +33,7 @@ fn area_at(holding: Holding, found: Found) -> Area
 {
     match found {
         Found::At(i) => {
-            if i < 16 {
+            if i < MOST_AREAS {
                 return area_in(holding, i);
             }
             holding::empty_area()
@@ -64,7 +66,7 @@ pub fn sub_at(area: Area, found: Found) -> Sub
 {
     match found {
         Found::At(i) => {
-            if i < 16 {
+            if i < MOST_SUBS {
                 return area.subs[i];
             }
             holding::empty_sub()
@@ -81,7 +83,7 @@ pub fn with_sub(area: Area, found: Found, sub: Sub, year: u16) -> Area
     after.latest = year;
     match found {
         Found::At(i) => {
-            if i < 16 {
+            if i < MOST_SUBS {
                 after.subs[i] = sub;
             }
             after

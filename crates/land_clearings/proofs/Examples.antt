@@ -1,13 +1,8 @@
 -- The guide's examples of trees that count (002, 4.5), the edges of the window and the ties, by computation.
-use Prim.Native.Nat.{ℕ}
-use mathlib.Core.Path.{_≡_, refl}
-use mathlib.Core.List.{List, [], _∷_}
-use Rattle.laws.specs.Elements.{keep}
-use Rattle.forest.specs.declared.Region.the-variants.{Auckland}
-use Rattle.forest.specs.declared.Forest.{Forest}
-use Rattle.forest.specs.declared.Forest.the-variants.{Radiata, DouglasFir, ExoticSoftwoods, ExoticHardwoods}
-use Rattle.land_clearings.specs.declared.Clearing.{Clearing}
-use Rattle.land_clearings.specs.Counting.{elder, countingOf}
+use Rattle.laws.proofs.{ℕ, _≡_, refl, List, [], _∷_}
+use Rattle.laws.specs.{keep}
+use Rattle.forest.specs.{Forest, Region}
+use Rattle.land_clearings.specs.{Clearing, elder, countingOf}
 
 abbrev of : Forest → ℕ → ℕ → Clearing
 of forest planted cleared = record { forest = forest; planted = planted; cleared = cleared }
@@ -23,17 +18,17 @@ example own earlier counts = record { own = own; earlier = earlier; counts = cou
 abbrev examples : List Example
 examples =
     -- a) Douglas fir of 1985 deforested in 2013
-    example (of DouglasFir 1985 2013) [] (of DouglasFir 1985 2013)
+    example (of Forest.DouglasFir 1985 2013) [] (of Forest.DouglasFir 1985 2013)
     -- b) Douglas fir of four years, after radiata of 40 years cleared in 2008
-    ∷ example (of DouglasFir 2008 2012) (of (Radiata Auckland) 1968 2008 ∷ []) (of (Radiata Auckland) 1968 2008)
+    ∷ example (of Forest.DouglasFir 2008 2012) (of (Forest.Radiata Region.Auckland) 1968 2008 ∷ []) (of (Forest.Radiata Region.Auckland) 1968 2008)
     -- c) the same Douglas fir at nine years
-    ∷ example (of DouglasFir 2008 2017) (of (Radiata Auckland) 1968 2008 ∷ []) (of DouglasFir 2008 2017)
+    ∷ example (of Forest.DouglasFir 2008 2017) (of (Forest.Radiata Region.Auckland) 1968 2008 ∷ []) (of Forest.DouglasFir 2008 2017)
     -- nine years before counts, ten do not
-    ∷ example (of DouglasFir 2012 2017) (of ExoticSoftwoods 1990 2008 ∷ of ExoticHardwoods 1968 2007 ∷ []) (of ExoticSoftwoods 1990 2008)
+    ∷ example (of Forest.DouglasFir 2012 2017) (of Forest.ExoticSoftwoods 1990 2008 ∷ of Forest.ExoticHardwoods 1968 2007 ∷ []) (of Forest.ExoticSoftwoods 1990 2008)
     -- on a tie the later cleared, then the parcel itself, then the first listed
-    ∷ example (of DouglasFir 2012 2017) (of ExoticSoftwoods 1990 2008 ∷ of ExoticHardwoods 1991 2009 ∷ []) (of ExoticHardwoods 1991 2009)
-    ∷ example (of DouglasFir 2012 2017) (of ExoticSoftwoods 2012 2017 ∷ []) (of DouglasFir 2012 2017)
-    ∷ example (of DouglasFir 2012 2017) (of ExoticSoftwoods 1990 2008 ∷ of ExoticHardwoods 1990 2008 ∷ []) (of ExoticSoftwoods 1990 2008)
+    ∷ example (of Forest.DouglasFir 2012 2017) (of Forest.ExoticSoftwoods 1990 2008 ∷ of Forest.ExoticHardwoods 1991 2009 ∷ []) (of Forest.ExoticHardwoods 1991 2009)
+    ∷ example (of Forest.DouglasFir 2012 2017) (of Forest.ExoticSoftwoods 2012 2017 ∷ []) (of Forest.DouglasFir 2012 2017)
+    ∷ example (of Forest.DouglasFir 2012 2017) (of Forest.ExoticSoftwoods 1990 2008 ∷ of Forest.ExoticHardwoods 1990 2008 ∷ []) (of Forest.ExoticSoftwoods 1990 2008)
     ∷ []
 
 unfoldable pub AllHold : List Example → Type 0

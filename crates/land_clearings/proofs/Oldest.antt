@@ -1,16 +1,8 @@
 -- Under nine years the clearing that counts is the oldest: it is the parcel's own or one within the window, and no other of these is older, or as old and cleared later.
-use Prim.Native.Nat.{_≤_, _<_}
-use mathlib.Core.Bool.{Bool, true, false, cond}
-use mathlib.Core.Logic.{inl, inr}
-use mathlib.Core.Path.{_≡_, refl}
-use mathlib.Core.List.{List, _∷_}
-use native.Mathlib.Omega.{arith}
-use borrow.Author.Tests.{ltb-true, ltb-false, lt-leb}
-use lib.Dec.{ltb}
-use Rattle.laws.specs.Elements.{keep}
+use Rattle.laws.proofs.{_≤_, _<_, Bool, true, false, cond, inl, inr, _≡_, refl, List, _∷_, arith, ltb-true, ltb-false, lt-leb, ltb}
+use Rattle.laws.specs.{keep}
 use Rattle.laws.proofs.Choosing.{Choice, Best, chosen-best, outranks-true, outranks-false}
-use Rattle.land_clearings.specs.declared.Clearing.{Clearing}
-use Rattle.land_clearings.specs.Counting.{ageOf, within, older, elder, countingOf}
+use Rattle.land_clearings.specs.{Clearing, ageOf, within, older, elder, countingOf}
 
 -- trees at least as old as another's, and cleared no earlier where they are as old
 pub record Ahead (c d : Clearing) : Type 0 where

@@ -1,12 +1,8 @@
 -- The clearing that counts, found in order: from nine years on its own; under nine, each earlier clearing within the window is set against the oldest so far.
-use Prim.Native.Nat.{ℕ, _≤_, _<_}
-use mathlib.Core.Bool.{cond}
-use mathlib.Core.Path.{_≡_, sym}
-use mathlib.Core.List.{List, foldl}
-use borrow.Author.Tests.{le-leb, lt-leb}
+use Rattle.laws.proofs.{ℕ, _≤_, _<_, cond, _≡_, sym, List, le-leb, lt-leb}
+use mathlib.Core.List.{foldl}
 use Rattle.laws.proofs.Elements.{fold-keep}
-use Rattle.land_clearings.specs.declared.Clearing.{Clearing}
-use Rattle.land_clearings.specs.Counting.{ageOf, within, elder, countingOf}
+use Rattle.land_clearings.specs.{Clearing, ageOf, within, elder, countingOf}
 
 -- one clearing more, passed over outside the window
 abbrev pub next : Clearing → Clearing → Clearing → Clearing

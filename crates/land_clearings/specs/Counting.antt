@@ -1,9 +1,5 @@
 -- The trees that count for pre-1990 land (002, 4.5): those of the clearing itself from nine years on, else the oldest of the last nine years.
-use Prim.Native.Nat.{ℕ, _+_, _-_}
-use mathlib.Core.Bool.{Bool, cond, _&&_}
-use mathlib.Core.List.{List, foldl}
-use lib.Dec.{leb, ltb}
-use Rattle.laws.specs.Elements.{keep, outranks}
+use Rattle.laws.specs.{ℕ, _+_, _-_, Bool, cond, _&&_, List, foldl, leb, ltb, keep, outranks}
 use Rattle.land_clearings.specs.declared.Clearing.{Clearing}
 
 -- "up to four earlier clearings"

@@ -3,7 +3,7 @@ use forest::Forest;
 ghost use mathlib.Core.Path.{_≡_};
 ghost use mathlib.Core.Bool.{cond};
 ghost use lib.ListN.{take};
-ghost use Rattle.land_clearings.specs.Counting.{ageOf, within, older, elder, countingOf};
+ghost use Rattle.land_clearings.specs.{ageOf, within, older, elder, countingOf};
 
 pub const MOST_EARLIER: usize = 4;
 

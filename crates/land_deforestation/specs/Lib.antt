@@ -1,1 +1,4 @@
-pub mod Emissions
+pub mod Charge
+pub use declared.Emissions.{Emissions}
+pub use Charge.{mostParcels}
+unfoldable pub use Charge.{faultsAmong, cases, kilogramsOf, answerOf, emissionsOf}

@@ -7,9 +7,9 @@ use units::Kilograms;
 ghost use mathlib.Core.Path.{_≡_};
 ghost use Prim.Native.Nat.{_*_, _≤_};
 ghost use lib.ListN.{take};
-ghost use Rattle.laws.specs.Elements.{sumBy};
-ghost use Rattle.refusals.specs.Refusals.{smallest};
-ghost use Rattle.land_deforestation.specs.Emissions.{faultsAmong, cases, kilogramsOf, emissionsOf};
+ghost use Rattle.laws.specs.{sumBy};
+ghost use Rattle.refusals.specs.{smallest};
+ghost use Rattle.land_deforestation.specs.{faultsAmong, cases, kilogramsOf, emissionsOf};
 
 pub const MOST_PARCELS: usize = 64;
 
@@ -59,7 +59,7 @@ fn judge(parcels: [Parcel; MOST_PARCELS], count: usize) -> Verdict
     ensures { λ v. ⌜ v ≡ smallest (cases count (take count parcels)) ⌝ }
 {
     let found = find_faults(parcels, count);
-    let bare = refusals::weigh(Verdict::Clear, found.bare, Refusal::ForestType);
+    let bare = refusals::weigh(Verdict::Accepted, found.bare, Refusal::ForestType);
     let hectares = refusals::weigh(bare, found.hectares, Refusal::Hectares);
     let years = refusals::weigh(hectares, found.years, Refusal::YearRange);
     let number = refusals::weigh(
@@ -104,7 +104,7 @@ pub fn calculate(parcels: [Parcel; MOST_PARCELS], count: usize) -> Emissions
     ensures { λ r. ⌜ r ≡ emissionsOf count (take count parcels) ⌝ }
 {
     let verdict = judge(parcels, count);
-    if let Verdict::Turned(refusal) = verdict {
+    if let Verdict::Refused(refusal) = verdict {
         return Emissions::Turned(refusal);
     }
     let cells = schedules::schedule_four();

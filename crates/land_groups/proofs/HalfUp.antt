@@ -1,9 +1,7 @@
 -- A quotient rounded half up: the quotient, and one more from a rest of one half on.
-use Prim.Native.Nat.{ℕ, _+_, _*_, _/_, _%_, _≤_, _<_}
-use mathlib.Core.Path.{_≡_, sym}
-use native.Mathlib.Omega.{arith}
+use Rattle.laws.proofs.{ℕ, _+_, _*_, _/_, _%_, _≤_, _<_, _≡_, sym, arith}
 use native.Mathlib.Nat.{mul-comm, add-mul, mul-left-comm, le-div-iff-mul-le, div-lt-iff-lt-mul, div-add-mod, mod-lt}
-use Rattle.land_groups.specs.Sums.{halfUp}
+use Rattle.land_groups.specs.{halfUp}
 
 module _ (n d : ℕ) (positive : 0 < d) where
   -- a number that n/d reaches is reached, and one that it does not pass is not passed

@@ -1,14 +1,10 @@
 -- The mean age of a type lies between the least and the greatest age of its groups: the weighted sums do, and rounding half up passes no whole number.
-use Prim.Native.Nat.{ℕ, _+_, _*_, _≤_, _<_}
-use mathlib.Core.Bool.{Bool, true, false, cond}
-use mathlib.Core.Path.{_≡_, refl}
-use mathlib.Core.List.{List, [], _∷_, List·Memᴰ, List·Memᴰ·head, List·Memᴰ·tail}
-use native.Mathlib.Omega.{arith}
+use Rattle.laws.proofs.{ℕ, _+_, _*_, _≤_, _<_, Bool, true, false, cond, _≡_, refl, List, [], _∷_, arith}
+use mathlib.Core.List.{List·Memᴰ, List·Memᴰ·head, List·Memᴰ·tail}
 use native.Mathlib.Nat.{zero-add, mul-add, mul-left-comm, mul-le-mul-right}
-use Rattle.laws.specs.Elements.{sumBy}
-use Rattle.forest.specs.declared.Forest.{Forest}
-use Rattle.land_groups.specs.declared.Group.{Group}
-use Rattle.land_groups.specs.Sums.{ofType, area, weightedAge, sumOver, weightsOf, meanAge}
+use Rattle.laws.specs.{sumBy}
+use Rattle.forest.specs.{Forest}
+use Rattle.land_groups.specs.{Group, ofType, area, weightedAge, sumOver, weightsOf, meanAge}
 use Rattle.land_groups.proofs.HalfUp.{half-up-reaches, half-up-keeps}
 
 -- every group of the type is between lo and hi years old

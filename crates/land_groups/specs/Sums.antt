@@ -1,11 +1,6 @@
 -- Basal area by species and by type, and the mean age of a type.
-use Prim.Native.Nat.{ℕ, _+_, _*_, _/_}
-use mathlib.Core.Bool.{Bool, cond}
-use mathlib.Core.List.{List}
-use lib.Dec.{eqb}
-use Rattle.laws.specs.Elements.{sumBy}
-use Rattle.forest.specs.declared.Forest.{Forest}
-use Rattle.forest.specs.Order.{sameType}
+use Rattle.laws.specs.{ℕ, _+_, _*_, _/_, Bool, cond, List, eqb, sumBy}
+use Rattle.forest.specs.{Forest, sameType}
 use Rattle.land_groups.specs.declared.Group.{Group}
 use Rattle.land_groups.specs.declared.Weights.{Weights}
 

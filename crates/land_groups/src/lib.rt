@@ -5,7 +5,7 @@ ghost use mathlib.Core.Path.{_≡_};
 ghost use mathlib.Core.Bool.{cond};
 ghost use Prim.Native.Nat.{_≤_};
 ghost use lib.ListN.{take};
-ghost use Rattle.land_groups.specs.Sums.{area, weightedAge, speciesArea, weightsOf, meanAge};
+ghost use Rattle.land_groups.specs.{area, weightedAge, speciesArea, weightsOf, meanAge};
 
 pub const MOST_GROUPS: usize = 64;
 

@@ -1,11 +1,8 @@
 -- What is found of the parcel's own clearing, or of an earlier one, is found of all its clearings.
-use mathlib.Core.Bool.{Bool, _||_}
-use mathlib.Core.Path.{_≡_, ap, _∙_}
-use mathlib.Core.List.{List, _∷_}
-use Rattle.laws.specs.Elements.{some}
-use Rattle.land_clearings.specs.declared.Clearing.{Clearing}
-use Rattle.land_parcels.specs.declared.Amiss.{Amiss}
-use Rattle.land_parcels.specs.Parcels.{clearsBare, outOfYears, misordered, amissOf}
+use Rattle.laws.proofs.{Bool, _||_, _≡_, ap, _∙_, List, _∷_}
+use Rattle.laws.specs.{some}
+use Rattle.land_clearings.specs.{Clearing}
+use Rattle.land_parcels.specs.{Amiss, clearsBare, outOfYears, misordered, amissOf}
 
 found : (test : Clearing → Bool) (own : Clearing) (earlier : List Clearing) (first all : Bool) → first ≡ test own → all ≡ (first || some test earlier) → all ≡ some test (own ∷ earlier)
 unfolding some

@@ -1,15 +1,8 @@
 -- A parcel of pre-1990 land: the clearing whose trees count, and what refuses the parcel.
-use Prim.Native.Nat.{ℕ}
-use mathlib.Core.Bool.{Bool, _||_}
-use mathlib.Core.List.{List, _∷_}
-use lib.Dec.{ltb}
-use lib.ListN.{take}
-use Rattle.laws.specs.Elements.{some}
-use Rattle.forest.specs.declared.Forest.the-variants.{Bare}
-use Rattle.forest.specs.Order.{sameType}
-use Rattle.ranges.specs.Ranges.{firstYear, lastYear, firstPlanted, leastHectares, mostHectares}
-use Rattle.land_clearings.specs.declared.Clearing.{Clearing}
-use Rattle.land_clearings.specs.Counting.{mostEarlier, leastAge, ageOf, countingOf}
+use Rattle.laws.specs.{ℕ, Bool, _||_, List, _∷_, ltb, take, some}
+use Rattle.forest.specs.{sameType, Forest}
+use Rattle.ranges.specs.{firstYear, lastYear, firstPlanted, leastHectares, mostHectares}
+use Rattle.land_clearings.specs.{Clearing, mostEarlier, leastAge, ageOf, countingOf}
 use Rattle.land_parcels.specs.declared.Parcel.{Parcel}
 use Rattle.land_parcels.specs.declared.Faults.{Faults}
 use Rattle.land_parcels.specs.declared.Amiss.{Amiss}
@@ -28,7 +21,7 @@ countedOf p = countingOf (ownClearing p) (earlierOf p)
 
 -- "3 type (B too in a .. parcel)"
 abbrev pub clearsBare : Clearing → Bool
-clearsBare c = sameType (c .forest) Bare
+clearsBare c = sameType (c .forest) Forest.Bare
 
 -- "other years are 1900 to 2199"
 abbrev pub offYears : ℕ → Bool

@@ -4,7 +4,7 @@ use land_clearings::Clearing;
 use land_clearings::MOST_EARLIER;
 ghost use mathlib.Core.Path.{_≡_};
 ghost use lib.ListN.{take};
-ghost use Rattle.land_parcels.specs.Parcels.{ownClearing, countedOf, clearsBare, offYears, outOfYears, misordered, amissOf, faultsOf};
+ghost use Rattle.land_parcels.specs.{ownClearing, countedOf, clearsBare, offYears, outOfYears, misordered, amissOf, faultsOf};
 
 // Hectares are ten-thousandths; the earlier clearings are the first `count`.
 pub struct Parcel {

@@ -1,11 +1,9 @@
 -- The predominant group found in order: the first group leads at first.
-use Prim.Native.Nat.{ℕ, _<_}
-use mathlib.Core.Path.{_≡_, sym, ap, _∙_}
-use mathlib.Core.List.{List, _∷_, foldl}
-use lib.ListN.{length, take, drop, getD}
+use Rattle.laws.proofs.{ℕ, _<_, _≡_, sym, ap, _∙_, List, _∷_, length, take, drop, getD}
+use mathlib.Core.List.{foldl}
 use Rattle.laws.proofs.Standing.{standing-next}
-use Rattle.land_groups.specs.declared.Group.{Group}
-use Rattle.land_predominance.specs.Predominance.{leading, predominantOf}
+use Rattle.land_groups.specs.{Group}
+use Rattle.land_predominance.specs.{leading, predominantOf}
 
 first-leads : (all : List Group) (g : Group) (rest : List Group) → all ≡ g ∷ rest → foldl (leading all) g rest ≡ predominantOf all
 unfolding predominantOf

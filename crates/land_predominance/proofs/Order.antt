@@ -1,17 +1,9 @@
 -- The predominant species is in the list, no other has a greater total, and none with the same total has a lower number:
 -- of two groups the leading one is ahead of both, and being ahead carries over.
-use Prim.Native.Nat.{_≤_}
-use mathlib.Core.Bool.{Bool, true, false, cond}
-use mathlib.Core.Logic.{inl, inr}
-use mathlib.Core.Path.{_≡_, refl}
-use mathlib.Core.List.{List, _∷_}
-use native.Mathlib.Omega.{arith}
-use borrow.Author.Tests.{ltb-true, ltb-false}
-use lib.Dec.{ltb}
+use Rattle.laws.proofs.{_≤_, Bool, true, false, cond, inl, inr, _≡_, refl, List, _∷_, arith, ltb-true, ltb-false, ltb}
 use Rattle.laws.proofs.Choosing.{Choice, Best, chosen-best, outranks-true, outranks-false}
-use Rattle.land_groups.specs.declared.Group.{Group}
-use Rattle.land_groups.specs.Sums.{speciesArea}
-use Rattle.land_predominance.specs.Predominance.{precedes, leading, predominantOf}
+use Rattle.land_groups.specs.{Group, speciesArea}
+use Rattle.land_predominance.specs.{precedes, leading, predominantOf}
 
 -- a group's species has no smaller total than another's, and no higher number where the totals are the same
 pub record Ahead (gs : List Group) (g h : Group) : Type 0 where

@@ -1,1 +1,3 @@
 pub mod Predominance
+pub use Predominance.{comesBefore, precedes, noGroup}
+unfoldable pub use Predominance.{leading, predominantOf}

@@ -1,12 +1,7 @@
 -- "Predominant: the species of greatest total basal area, the lower number on a tie."
-use Prim.Native.Nat.{ℕ}
-use mathlib.Core.Bool.{Bool, cond}
-use mathlib.Core.List.{List, [], _∷_, foldl}
-use lib.Dec.{ltb}
-use Rattle.laws.specs.Elements.{outranks}
-use Rattle.forest.specs.declared.Forest.the-variants.{Bare}
-use Rattle.land_groups.specs.declared.Group.{Group}
-use Rattle.land_groups.specs.Sums.{speciesArea}
+use Rattle.laws.specs.{ℕ, Bool, cond, List, [], _∷_, foldl, ltb, outranks}
+use Rattle.forest.specs.{Forest}
+use Rattle.land_groups.specs.{Group, speciesArea}
 
 -- whether a species with its total basal area comes before another with its own
 abbrev pub comesBefore : ℕ → ℕ → ℕ → ℕ → Bool
@@ -21,7 +16,7 @@ unfoldable pub leading : List Group → Group → Group → Group
 leading gs leader g = cond (precedes gs g leader) g leader
 
 abbrev pub noGroup : Group
-noGroup = record { species = 0; forest = Bare; age = 0; «basal_area» = 0 }
+noGroup = record { species = 0; forest = Forest.Bare; age = 0; «basal_area» = 0 }
 
 -- a group of the predominant species
 unfoldable pub predominantOf : List Group → Group

@@ -4,7 +4,7 @@ use land_groups::Group;
 use land_groups::MOST_GROUPS;
 ghost use mathlib.Core.Path.{_≡_};
 ghost use lib.ListN.{take};
-ghost use Rattle.land_predominance.specs.Predominance.{comesBefore, leading, predominantOf};
+ghost use Rattle.land_predominance.specs.{comesBefore, leading, predominantOf};
 
 fn comes_before(total: u64, species: u16, other_total: u64, other: u16) -> bool
     ensures { λ r. ⌜ r ≡ comesBefore total species «other_total» other ⌝ }

@@ -1,25 +1,14 @@
 -- What is gathered of a list: the groups gathered so far with those that are left make the whole, and once none is left, what is held answers for the list.
 -- A list of at most 64 groups is held whole. A longer one is refused whatever is held.
-use Prim.Native.Nat.{ℕ, suc, _+_, _<_, _≤_}
-use mathlib.Core.Bool.{Bool, true, false, _||_}
-use mathlib.Core.Path.{_≡_, refl, sym, ap, _∙_}
-use mathlib.Core.List.{List}
-use native.Mathlib.Numerals.{add-one}
-use native.Mathlib.Omega.{arith}
-use borrow.Author.Tests.{ltb-false}
-use lib.Dec.{eqb, ltb}
-use lib.ListN.{length, take, drop, getD, replicate}
-use lib.Seq.{sets, sets-eq, drop-cons, drop-length, take-append-seam}
-use Rattle.laws.specs.Elements.{some}
+use Rattle.laws.proofs.{ℕ, suc, _+_, _<_, _≤_, Bool, true, false, _||_, _≡_, refl, sym, ap, _∙_, List, add-one, arith, ltb-false, eqb, ltb, length, take, drop, getD, replicate, sets, drop-cons, take-append-seam}
+use lib.Seq.{sets-eq, drop-length}
+use Rattle.laws.specs.{some}
 use Rattle.laws.proofs.Elements.{or-none, or-assoc}
-use Rattle.refusals.specs.Refusals.{weighed, weighAll, smallest}
-use Rattle.forest.specs.declared.Forest.the-variants.{Bare}
-use Rattle.land_groups.specs.declared.Group.{Group}
-use Rattle.land_groups.specs.Sums.{ofType}
-use Rattle.land_trees.specs.declared.Gathered.{Gathered}
-use Rattle.land_predominance.specs.Predominance.{noGroup}
-use Rattle.land_trees.specs.Gathering.{noneGathered, gathering}
-use Rattle.land_trees.specs.Hectares.{bareIn, cases, answerOf, heldOf, hectareOf}
+use Rattle.refusals.specs.{weighed, weighAll, smallest}
+use Rattle.forest.specs.{Forest}
+use Rattle.land_groups.specs.{Group, ofType}
+use Rattle.land_trees.specs.{Gathered, noneGathered, gathering, bareIn, cases, answerOf, heldOf, hectareOf}
+use Rattle.land_predominance.specs.{noGroup}
 
 or-true : (a : Bool) → (a || true) ≡ true
 or-true true = refl
@@ -56,7 +45,7 @@ module _ (gs : List Group) where
   unfolding gathering some
   going-more i found d h go = rw add-one (record {
     held = ap (sets (found .groups) i) (sym (drop-cons gs i d h)) ∙ go .held;
-    bare = or-assoc (found .bare) (ofType Bare (getD gs i d)) (bareIn (drop (suc i) gs)) ∙ ap (λ (l : List Group). found .bare || bareIn l) (sym (drop-cons gs i d h)) ∙ go .bare;
+    bare = or-assoc (found .bare) (ofType Forest.Bare (getD gs i d)) (bareIn (drop (suc i) gs)) ∙ ap (λ (l : List Group). found .bare || bareIn l) (sym (drop-cons gs i d h)) ∙ go .bare;
   })
 
   -- once every group is gathered

@@ -1,22 +1,13 @@
 -- What a list that is not refused keeps: a clear verdict was clear at every case.
-use Prim.Native.Nat.{ℕ, _≤_, _<_}
-use mathlib.Core.Bool.{Bool, true, false, not, _&&_, _||_}
-use mathlib.Core.Path.{_≡_, refl, sym}
-use mathlib.Core.List.{List, List·Memᴰ}
-use native.Mathlib.Omega.{arith}
-use borrow.Author.Tests.{ltb-false, eqb-false, eq-eqb}
-use lib.Dec.{eqb, ltb}
-use Rattle.laws.specs.Elements.{some}
+use Rattle.laws.proofs.{ℕ, _≤_, _<_, Bool, true, false, not, _&&_, _||_, _≡_, refl, sym, List, arith, ltb-false, eqb-false, eq-eqb, eqb, ltb}
+use mathlib.Core.List.{List·Memᴰ}
+use Rattle.laws.specs.{some}
 use Rattle.laws.proofs.Elements.{or-false-left, or-false-right, none-passes}
-use Rattle.refusals.specs.declared.Refusal.the-variants.{ForestType, TreeList}
-use Rattle.refusals.specs.declared.Verdict.{Verdict}
-use Rattle.refusals.specs.declared.Verdict.the-variants.{Clear}
-use Rattle.refusals.specs.Refusals.{weighed, weighAll, smallest}
+use Rattle.refusals.specs.{Verdict, weighed, weighAll, smallest, Refusal}
 use Rattle.refusals.proofs.Laws.{clear-before, clear-last}
 use Rattle.forest.proofs.Laws.{same-type}
-use Rattle.land_groups.specs.declared.Group.{Group}
-use Rattle.land_groups.specs.Sums.{ofSpecies, ofType, area}
-use Rattle.land_trees.specs.Hectares.{outOfRange, otherType, faultsOf, cases}
+use Rattle.land_groups.specs.{Group, ofSpecies, ofType, area}
+use Rattle.land_trees.specs.{outOfRange, otherType, faultsOf, cases}
 
 pub record InRange (g : Group) : Type 0 where
   pub age : g .age ≤ 300
@@ -47,7 +38,7 @@ and-not false b e f = absurd (let z : _≡_ {A = ℕ} 0 1 = cc in omega arith)
 one-type : (g h : Group) → otherType g h ≡ false → h .species ≡ g .species → h .forest ≡ g .forest
 one-type g h e s = same-type (h .forest) (g .forest) (and-not (ofSpecies (g .species) h) (ofType (g .forest) h) (eq-eqb (h .species) (g .species) s) e)
 
-pub judged : (count : ℕ) (bare : Bool) (gs : List Group) → smallest (cases count bare gs) ≡ Clear → Judged count gs
+pub judged : (count : ℕ) (bare : Bool) (gs : List Group) → smallest (cases count bare gs) ≡ Verdict.Accepted → Judged count gs
 unfolding smallest weighAll cases faultsOf
 judged count bare gs e = record {
   at-least = let z : count ≡ 0 → ⊥ = eqb-false count 0 (or-false-left (eqb count 0) (ltb 64 count) number) in omega arith;
@@ -57,22 +48,22 @@ judged count bare gs e = record {
 }
   where
     v1 : Verdict
-    v1 = weighed Clear bare ForestType
+    v1 = weighed Verdict.Accepted bare Refusal.ForestType
 
     v2 : Verdict
-    v2 = weighed v1 (eqb count 0 || ltb 64 count) TreeList
+    v2 = weighed v1 (eqb count 0 || ltb 64 count) Refusal.TreeList
 
     v3 : Verdict
-    v3 = weighed v2 (faultsOf gs .«out_of_range») TreeList
+    v3 = weighed v2 (faultsOf gs .«out_of_range») Refusal.TreeList
 
     types : some (λ g. some (otherType g) gs) gs ≡ false
-    types = clear-last v3 (faultsOf gs .«two_types») TreeList e
+    types = clear-last v3 (faultsOf gs .«two_types») Refusal.TreeList e
 
-    clear3 : v3 ≡ Clear
-    clear3 = clear-before v3 (faultsOf gs .«two_types») TreeList e
+    clear3 : v3 ≡ Verdict.Accepted
+    clear3 = clear-before v3 (faultsOf gs .«two_types») Refusal.TreeList e
 
     range : some outOfRange gs ≡ false
-    range = clear-last v2 (faultsOf gs .«out_of_range») TreeList clear3
+    range = clear-last v2 (faultsOf gs .«out_of_range») Refusal.TreeList clear3
 
     number : (eqb count 0 || ltb 64 count) ≡ false
-    number = clear-last v1 (eqb count 0 || ltb 64 count) TreeList (clear-before v2 (faultsOf gs .«out_of_range») TreeList clear3)
+    number = clear-last v1 (eqb count 0 || ltb 64 count) Refusal.TreeList (clear-before v2 (faultsOf gs .«out_of_range») Refusal.TreeList clear3)

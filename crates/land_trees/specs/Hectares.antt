@@ -1,21 +1,11 @@
 -- The type and age of a hectare, or the refusal of its tree list.
-use Prim.Native.Nat.{ℕ}
-use mathlib.Core.Bool.{Bool, not, _&&_, _||_}
-use mathlib.Core.List.{List, [], _∷_}
-use lib.Dec.{eqb, ltb}
-use lib.ListN.{length}
-use Rattle.laws.specs.Elements.{some}
-use Rattle.refusals.specs.declared.Refusal.the-variants.{ForestType, TreeList}
-use Rattle.refusals.specs.declared.Verdict.{Verdict}
-use Rattle.refusals.specs.declared.Verdict.the-variants.{Clear, Turned as Refused}
-use Rattle.refusals.specs.Refusals.{Case, _⇒_, smallest}
-use Rattle.forest.specs.declared.Forest.the-variants.{Bare}
-use Rattle.land_groups.specs.declared.Group.{Group}
-use Rattle.land_groups.specs.Sums.{mostGroups, ofSpecies, ofType, meanAge}
-use Rattle.land_predominance.specs.Predominance.{predominantOf}
+use Rattle.laws.specs.{ℕ, Bool, not, _&&_, _||_, List, [], _∷_, eqb, ltb, length, some}
+use Rattle.refusals.specs.{Verdict, Case, _⇒_, smallest, Refusal}
+use Rattle.forest.specs.{Forest}
+use Rattle.land_groups.specs.{Group, mostGroups, ofSpecies, ofType, meanAge}
+use Rattle.land_predominance.specs.{predominantOf}
 use Rattle.land_trees.specs.declared.Faults.{Faults}
 use Rattle.land_trees.specs.declared.Hectare.{Hectare}
-use Rattle.land_trees.specs.declared.Hectare.the-variants.{Of, Turned}
 
 abbrev pub oldestTrees : ℕ
 oldestTrees = 300
@@ -40,23 +30,23 @@ faultsOf gs = record {
 
 -- whether some group is bare land
 abbrev pub bareIn : List Group → Bool
-bareIn gs = some (ofType Bare) gs
+bareIn gs = some (ofType Forest.Bare) gs
 
 -- of the number of groups given, whether one of them is bare land, and the groups that are held
 unfoldable pub cases : ℕ → Bool → List Group → List Case
 cases count bare gs =
     -- "3 type (B too in a .. tree ..)"
-    bare ⇒ ForestType
+    bare ⇒ Refusal.ForestType
     -- "7 tree list: none or over 64 groups, age over 300, basal area 0 or over 1000000, one species under two types"
-    ∷ (eqb count 0 || ltb mostGroups count) ⇒ TreeList
-    ∷ faultsOf gs .«out_of_range» ⇒ TreeList
-    ∷ faultsOf gs .«two_types» ⇒ TreeList
+    ∷ (eqb count 0 || ltb mostGroups count) ⇒ Refusal.TreeList
+    ∷ faultsOf gs .«out_of_range» ⇒ Refusal.TreeList
+    ∷ faultsOf gs .«two_types» ⇒ Refusal.TreeList
     ∷ []
 
 -- "Its type is the hectare's": the predominant species'
 unfoldable pub answerOf : Verdict → List Group → Hectare
-answerOf (Refused refusal) gs = Turned refusal
-answerOf Clear gs = Of (predominantOf gs .forest) (meanAge gs (predominantOf gs .forest))
+answerOf (Verdict.Refused refusal) gs = Hectare.Turned refusal
+answerOf Verdict.Accepted gs = Hectare.Of (predominantOf gs .forest) (meanAge gs (predominantOf gs .forest))
 
 unfoldable pub heldOf : ℕ → Bool → List Group → Hectare
 heldOf count bare gs = answerOf (smallest (cases count bare gs)) gs

@@ -6,10 +6,9 @@ use refusals::Refusal;
 use refusals::Verdict;
 ghost use mathlib.Core.Path.{_≡_};
 ghost use lib.ListN.{take};
-ghost use Rattle.laws.specs.Elements.{some};
-ghost use Rattle.refusals.specs.Refusals.{smallest};
-ghost use Rattle.land_trees.specs.Gathering.{noneGathered, gathering};
-ghost use Rattle.land_trees.specs.Hectares.{outOfRange, otherType, faultsOf, cases, heldOf, hectareOf};
+ghost use Rattle.laws.specs.{some};
+ghost use Rattle.refusals.specs.{smallest};
+ghost use Rattle.land_trees.specs.{noneGathered, gathering, outOfRange, otherType, faultsOf, cases, heldOf, hectareOf};
 
 const OLDEST_TREES: u16 = 300;
 
@@ -93,7 +92,7 @@ fn judge(found: Gathered, count: usize) -> Verdict
 {
     let groups = found.groups;
     let faults = find_faults(groups, count);
-    let bare = refusals::weigh(Verdict::Clear, found.bare, Refusal::ForestType);
+    let bare = refusals::weigh(Verdict::Accepted, found.bare, Refusal::ForestType);
     let number = refusals::weigh(
         bare,
         (count == 0) | (MOST_GROUPS < count),
@@ -108,7 +107,7 @@ fn type_and_age(found: Gathered, count: usize) -> Hectare
     ensures { λ r. ⌜ r ≡ heldOf count (found .bare) (take count (found .groups)) ⌝ }
 {
     let verdict = judge(found, count);
-    if let Verdict::Turned(refusal) = verdict {
+    if let Verdict::Refused(refusal) = verdict {
         return Hectare::Turned(refusal);
     }
     let groups = found.groups;

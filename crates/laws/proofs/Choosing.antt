@@ -8,7 +8,7 @@ use mathlib.Core.List.{List, [], _∷_, foldl, List·Memᴰ, List·Memᴰ·head,
 use native.Mathlib.Omega.{arith}
 use borrow.Author.Tests.{ltb-true, ltb-false, eqb-true, eqb-false}
 use lib.Dec.{eqb, ltb}
-use Rattle.laws.specs.Elements.{outranks}
+use Rattle.laws.specs.{outranks}
 
 -- of two, one is chosen that is ahead of both
 pub record Choice {A : Type 0} (Ahead : A → A → Type 0) (best a chosen : A) : Type 0 where

@@ -5,7 +5,7 @@ use mathlib.Core.Path.{_≡_, refl, sym}
 use mathlib.Core.List.{List, [], _∷_, _++_}
 use borrow.Author.Tests.{eqb-false, ne-eqb, not-true}
 use lib.Dec.{eqb}
-use Rattle.laws.specs.Elements.{some, distinct}
+use Rattle.laws.specs.{some, distinct}
 use Rattle.laws.proofs.Elements.{or-false-left, or-false-right}
 use Rattle.laws.proofs.Lists.{and-left, and-right}
 

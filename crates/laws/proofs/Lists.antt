@@ -11,7 +11,7 @@ use lib.Dec.{leb}
 use lib.ListN.{length, getD, set, take, drop, drop-of-length-le}
 use lib.Seq.{drop-cons}
 use borrow.Author.Tests.{le-leb, lt-leb, leb-true}
-use Rattle.laws.specs.Lists.{eachAtMost, sumOf}
+use Rattle.laws.specs.{eachAtMost, sumOf}
 
 -- both sides of a conjunction that holds
 pub and-left : (a b : Bool) → a && b ≡ true → a ≡ true

@@ -2,7 +2,7 @@
 use mathlib.Core.Bool.{Bool, true, false, _&&_}
 use mathlib.Core.Path.{_≡_, refl}
 use mathlib.Core.List.{List, [], _∷_, foldl}
-use Rattle.laws.specs.Tests.{allOf}
+use Rattle.laws.specs.{allOf}
 use Rattle.laws.proofs.Lists.{and-left, and-right}
 
 unfoldable pub AllTrue : List Bool → Type 0

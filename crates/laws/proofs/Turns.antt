@@ -7,7 +7,7 @@ use mathlib.Core.List.{List, foldl}
 use native.Mathlib.Omega.{arith}
 use lib.Dec.{eqb}
 use lib.ListN.{length, take, drop, getD}
-use Rattle.laws.specs.Elements.{some, every, distinct, sumBy}
+use Rattle.laws.specs.{some, every, distinct, sumBy}
 use Rattle.laws.proofs.Elements.{or-none, or-assoc}
 use Rattle.laws.proofs.Standing.{standing-next, standing-end, standing-out}
 

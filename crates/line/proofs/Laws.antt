@@ -1,23 +1,10 @@
 -- The laws of a line: its body, the scan for an end, its letter, and what refuses it before its letter is looked at.
-use Prim.Native.Nat.{ℕ, _+_, _-_, _≤_, _<_}
-use mathlib.Core.Path.{_≡_, refl, sym, ap, _∙_}
-use mathlib.Core.Bool.{Bool, true, false}
-use mathlib.Core.List.{List, [], _∷_}
-use native.Mathlib.Omega.{arith}
-use native.Mathlib.Numerals.{add-one}
-use borrow.Author.Tests.{eq-eqb, ne-eqb, lt-ltb, le-ltb}
-use lib.ListN.{length, getD, take, drop, drop-of-length-le}
-use lib.Seq.{drop-cons, take-all}
-use Rattle.text.specs.Fields.{split}
-use Rattle.refusals.specs.declared.Refusal.the-variants.{Form}
-use Rattle.refusals.specs.declared.Verdict.{Verdict}
-use Rattle.refusals.specs.declared.Verdict.the-variants.{Turned as TurnedBy}
-use Rattle.refusals.specs.Refusals.{Case, _⇒_, weighed, weighAll, smallest}
+use Rattle.laws.proofs.{ℕ, _+_, _-_, _≤_, _<_, _≡_, refl, sym, ap, _∙_, Bool, true, false, List, [], _∷_, arith, add-one, eq-eqb, ne-eqb, lt-ltb, le-ltb, length, getD, take, drop, drop-of-length-le, drop-cons, take-all}
+use Rattle.text.specs.{split}
+use Rattle.refusals.specs.{Verdict, Case, _⇒_, weighed, weighAll, smallest, Refusal}
 use Rattle.refusals.proofs.Smallest.{turned-stands}
-use Rattle.line_entry.specs.declared.Parsed.{Parsed}
-use Rattle.line_entry.specs.declared.Parsed.the-variants.{Turned}
-use Rattle.line_entry.specs.Rules.{parsed, parsedBy}
-use Rattle.line.specs.Lines.{bodyOf, holdsEnd, longest, letterOf, noRule, ruleOf, lineRule, conditions, entryOf}
+use Rattle.line_entry.specs.{Parsed, parsed, parsedBy}
+use Rattle.line.specs.{bodyOf, holdsEnd, longest, letterOf, noRule, ruleOf, lineRule, conditions, entryOf}
 
 module _ (line : List ℕ) (n : ℕ) (e : n ≡ length line) where
   pub body-open : (getD line (n - 1) 0 ≡ 10 → ⊥) → take (n - 0) (drop 0 line) ≡ bodyOf line
@@ -79,29 +66,29 @@ unfolding lineRule
 rule-known s l b x e k h = h ∙ ap (λ (n : ℕ). parsedBy (ruleOf n (split s))) (sym k ∙ e)
 
 -- a letter that has no rule
-pub rule-unknown : (s : List ℕ) (l : ℕ) → l ≡ letterOf s → ruleOf l (split s) ≡ noRule → Turned Form ≡ parsedBy (lineRule s)
+pub rule-unknown : (s : List ℕ) (l : ℕ) → l ≡ letterOf s → ruleOf l (split s) ≡ noRule → Parsed.Refused Refusal.Form ≡ parsedBy (lineRule s)
 unfolding lineRule noRule parsed smallest weighAll weighed
 rule-unknown s l e q = sym (ap parsedBy (ap (λ (n : ℕ). ruleOf n (split s)) (sym e) ∙ q))
 
 -- a case that applies, where none before it does
-first-applies : (cs : List Case) (t : Bool) → t ≡ true → smallest (t ⇒ Form ∷ cs) ≡ TurnedBy Form
+first-applies : (cs : List Case) (t : Bool) → t ≡ true → smallest (t ⇒ Refusal.Form ∷ cs) ≡ Verdict.Refused Refusal.Form
 unfolding smallest weighAll weighed
-first-applies cs t e = rw e (turned-stands Form cs)
+first-applies cs t e = rw e (turned-stands Refusal.Form cs)
 
-first-passed : (cs : List Case) (t : Bool) → t ≡ false → smallest (t ⇒ Form ∷ cs) ≡ smallest cs
+first-passed : (cs : List Case) (t : Bool) → t ≡ false → smallest (t ⇒ Refusal.Form ∷ cs) ≡ smallest cs
 unfolding smallest weighAll weighed
 first-passed cs t e = rw e refl
 
 module _ (line s : List ℕ) (e : s ≡ bodyOf line) where
-  refused : smallest (conditions s) ≡ TurnedBy Form → Turned Form ≡ entryOf line
+  refused : smallest (conditions s) ≡ Verdict.Refused Refusal.Form → Parsed.Refused Refusal.Form ≡ entryOf line
   unfolding entryOf parsed
   refused q = rw (sym e) (rw q refl)
 
-  pub too-long : longest < length s → Turned Form ≡ entryOf line
+  pub too-long : longest < length s → Parsed.Refused Refusal.Form ≡ entryOf line
   unfolding conditions
   too-long h = refused (first-applies _ _ (lt-ltb longest (length s) h))
 
-  pub broken : length s ≤ longest → holdsEnd s ≡ true → Turned Form ≡ entryOf line
+  pub broken : length s ≤ longest → holdsEnd s ≡ true → Parsed.Refused Refusal.Form ≡ entryOf line
   unfolding conditions
   broken h q = refused (first-passed _ _ (le-ltb longest (length s) h) ∙ first-applies _ _ q)
 

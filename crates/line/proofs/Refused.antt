@@ -1,21 +1,11 @@
 -- What a line is refused with is the smallest number that applies: the table of every letter rises, and so does that of a whole line.
-use Prim.Native.Nat.{ℕ}
-use mathlib.Core.Bool.{Bool, true, false, cond}
-use mathlib.Core.Path.{_≡_, refl}
-use mathlib.Core.List.{List}
-use native.Mathlib.Omega.{arith}
-use lib.Dec.{eqb}
-use Rattle.text.specs.Fields.{split}
-use Rattle.refusals.specs.declared.Refusal.{Refusal}
-use Rattle.refusals.specs.declared.Verdict.{Verdict}
-use Rattle.refusals.specs.declared.Verdict.the-variants.{Clear, Turned as TurnedBy}
-use Rattle.refusals.specs.Refusals.{numberOf}
+use Rattle.laws.proofs.{ℕ, Bool, true, false, cond, _≡_, refl, List, arith, eqb}
+use Rattle.text.specs.{split}
+use Rattle.refusals.specs.{Refusal, Verdict, numberOf}
 use Rattle.refusals.proofs.Smallest.{Least, Rising, rises, rising, first-is-smallest}
-use Rattle.line_entry.specs.declared.Entry.{Entry}
-use Rattle.line_entry.specs.declared.Parsed.the-variants.{Turned}
-use Rattle.line_entry.specs.Rules.{Rule, parsed, areaAndYear, openRule, addRule, clearRule, plantRule, fileRule, withdrawRule}
-use Rattle.line_column.specs.Columns.{columnRule}
-use Rattle.line.specs.Lines.{bodyOf, letterOf, noRule, ruleOf, lineRule, conditions, entryOf}
+use Rattle.line_entry.specs.{Entry, Rule, parsed, areaAndYear, openRule, addRule, clearRule, plantRule, fileRule, withdrawRule, Parsed}
+use Rattle.line_column.specs.{columnRule}
+use Rattle.line.specs.{bodyOf, letterOf, noRule, ruleOf, lineRule, conditions, entryOf}
 
 either : (t : Bool) (x y : Rule) → rises 1 (x .cases) ≡ true → rises 1 (y .cases) ≡ true → rises 1 (cond t x y .cases) ≡ true
 either true x y p q = p
@@ -31,11 +21,11 @@ pub conditions-rise : (body : List ℕ) → Rising 1 (conditions body)
 unfolding conditions lineRule rises
 conditions-rise body = rising 1 (conditions body) (rules-rise (letterOf body) (split body))
 
-turned-by : (v : Verdict) (e : Entry) (r : Refusal) → parsed v e ≡ Turned r → v ≡ TurnedBy r
+turned-by : (v : Verdict) (e : Entry) (r : Refusal) → parsed v e ≡ Parsed.Refused r → v ≡ Verdict.Refused r
 unfolding parsed
-turned-by Clear e r q = let z : _≡_ {A = ℕ} 0 1 = cc in absurd (omega arith)
-turned-by (TurnedBy s) e r q = cc
+turned-by Verdict.Accepted e r q = let z : _≡_ {A = ℕ} 0 1 = cc in absurd (omega arith)
+turned-by (Verdict.Refused s) e r q = cc
 
-pub refused-smallest : (line : List ℕ) (r : Refusal) → entryOf line ≡ Turned r → Least (numberOf r) (conditions (bodyOf line))
+pub refused-smallest : (line : List ℕ) (r : Refusal) → entryOf line ≡ Parsed.Refused r → Least (numberOf r) (conditions (bodyOf line))
 unfolding entryOf
 refused-smallest line r e = first-is-smallest 1 (conditions (bodyOf line)) r (conditions-rise (bodyOf line)) (turned-by _ _ r e)

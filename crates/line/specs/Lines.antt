@@ -1,16 +1,9 @@
 -- What a line says: an entry, or the smallest number that refuses it.
-use Prim.Native.Nat.{ℕ, _-_}
-use mathlib.Core.Bool.{Bool, true, false, cond, _||_}
-use mathlib.Core.List.{List, [], _∷_}
-use lib.Dec.{eqb, ltb}
-use lib.ListN.{length, getD, take}
-use Rattle.text.specs.Fields.{split}
-use Rattle.refusals.specs.declared.Refusal.the-variants.{Form}
-use Rattle.refusals.specs.Refusals.{Case, _⇒_, smallest}
-use Rattle.line_entry.specs.declared.Entry.the-variants.{Withdraw}
-use Rattle.line_entry.specs.declared.Parsed.{Parsed}
-use Rattle.line_entry.specs.Rules.{Rule, parsed, openRule, addRule, clearRule, plantRule, fileRule, withdrawRule}
-use Rattle.line_column.specs.Columns.{columnRule}
+use Rattle.laws.specs.{ℕ, _-_, Bool, true, false, cond, _||_, List, [], _∷_, eqb, ltb, length, getD, take}
+use Rattle.text.specs.{split}
+use Rattle.refusals.specs.{Case, _⇒_, smallest, Refusal}
+use Rattle.line_entry.specs.{Parsed, Rule, parsed, openRule, addRule, clearRule, plantRule, fileRule, withdrawRule, Act, Entry, on}
+use Rattle.line_column.specs.{columnRule}
 
 -- "a line ends with byte 10 (the last may lack it)": the line besides its end
 unfoldable pub bodyOf : List ℕ → List ℕ
@@ -31,7 +24,7 @@ letterOf (b ∷ c ∷ bs) = cond (eqb c 44) b 0
 
 -- "1 wrong letter": no entry is taken, and the one that stands there has no meaning
 unfoldable pub noRule : Rule
-noRule = record { cases = true ⇒ Form ∷ []; entry = Withdraw 0 }
+noRule = record { cases = true ⇒ Refusal.Form ∷ []; entry = Entry.On (on 0 Act.Withdraw) }
 
 -- T, A, S, C, P, R, W
 unfoldable pub ruleOf : ℕ → List (List ℕ) → Rule
@@ -51,7 +44,7 @@ lineRule body = ruleOf (letterOf body) (split body)
 
 -- "1 .. byte 10 before a line's end, line over 1024 bytes besides its end", and what its letter asks
 unfoldable pub conditions : List ℕ → List Case
-conditions body = ltb longest (length body) ⇒ Form ∷ holdsEnd body ⇒ Form ∷ lineRule body .cases
+conditions body = ltb longest (length body) ⇒ Refusal.Form ∷ holdsEnd body ⇒ Refusal.Form ∷ lineRule body .cases
 
 unfoldable pub entryOf : List ℕ → Parsed
 entryOf line = parsed (smallest (conditions (bodyOf line))) (lineRule (bodyOf line) .entry)

@@ -1,9 +1,9 @@
 // A line, with its end or without, to an entry or a refusal.
 ghost use mathlib.Core.Path.{_≡_};
-ghost use Rattle.text.specs.Fields.{split};
-ghost use Rattle.line_entry.specs.Rules.{parsedBy};
-ghost use Rattle.line_column.specs.Columns.{roomFor, filled};
-ghost use Rattle.line.specs.Lines.{bodyOf, holdsEnd, letterOf, lineRule, entryOf};
+ghost use Rattle.text.specs.{split};
+ghost use Rattle.line_entry.specs.{parsedBy};
+ghost use Rattle.line_column.specs.{roomFor, filled};
+ghost use Rattle.line.specs.{bodyOf, holdsEnd, letterOf, lineRule, entryOf};
 use line_entry::Parsed;
 use refusals::Refusal;
 use refusals::Verdict;
@@ -64,7 +64,7 @@ fn by_letter(body: &[u8]) -> Parsed
         80 => line_stand::plant_entry(body),
         82 => line_area::file_entry(body),
         87 => line_area::withdraw_entry(body),
-        _ => Parsed::Turned(Refusal::Form),
+        _ => Parsed::Refused(Refusal::Form),
     }
 }
 
@@ -73,10 +73,10 @@ pub fn parse(line: &[u8]) -> Parsed
 {
     let inner = body(line);
     if LONGEST < inner.len() {
-        return Parsed::Turned(Refusal::Form);
+        return Parsed::Refused(Refusal::Form);
     }
     if holds_end(inner) {
-        return Parsed::Turned(Refusal::Form);
+        return Parsed::Refused(Refusal::Form);
     }
     by_letter(inner)
 }

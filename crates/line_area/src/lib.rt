@@ -1,8 +1,10 @@
 // The entries of an accounting area: A opens it, R files a return, W withdraws it.
 ghost use mathlib.Core.Path.{_≡_};
-ghost use Rattle.text.specs.Fields.{split};
-ghost use Rattle.line_entry.specs.Rules.{parsedBy, openRule, fileRule, withdrawRule};
-ghost use Rattle.line_area.specs.Read.{areaYear};
+ghost use Rattle.text.specs.{split};
+ghost use Rattle.line_entry.specs.{parsedBy, openRule, fileRule, withdrawRule};
+ghost use Rattle.line_area.specs.{areaYear};
+use line_entry::Act;
+use line_entry::AreaAct;
 use line_entry::Entry;
 use line_entry::Parsed;
 use refusals::Refusal;
@@ -22,7 +24,7 @@ fn area_and_year(line: &[u8]) -> AreaAndYear
     let count = places.count;
     let area = line_entry::number_at(line, places, 1);
     let year = line_entry::number_at(line, places, 2);
-    let v = refusals::weigh(Verdict::Clear, count != 3, Refusal::Form);
+    let v = refusals::weigh(Verdict::Accepted, count != 3, Refusal::Form);
     let v = line_entry::weigh_form(v, area);
     let v = line_entry::weigh_form(v, year);
     let v = line_entry::weigh_area(v, area);
@@ -41,11 +43,11 @@ pub fn open_entry(line: &[u8]) -> Parsed
     let read = area_and_year(line);
     let v = read.verdict;
     match v {
-        Verdict::Turned(refusal) => Parsed::Turned(refusal),
-        Verdict::Clear => Parsed::Taken(Entry::Open {
+        Verdict::Refused(refusal) => Parsed::Refused(refusal),
+        Verdict::Accepted => Parsed::Taken(Entry::On(AreaAct {
             area: read.area,
-            opening: read.year,
-        }),
+            act: Act::Open { opening: read.year },
+        })),
     }
 }
 
@@ -56,11 +58,11 @@ pub fn file_entry(line: &[u8]) -> Parsed
     let read = area_and_year(line);
     let v = read.verdict;
     match v {
-        Verdict::Turned(refusal) => Parsed::Turned(refusal),
-        Verdict::Clear => Parsed::Taken(Entry::File {
+        Verdict::Refused(refusal) => Parsed::Refused(refusal),
+        Verdict::Accepted => Parsed::Taken(Entry::On(AreaAct {
             area: read.area,
-            last: read.year,
-        }),
+            act: Act::File { last: read.year },
+        })),
     }
 }
 
@@ -71,13 +73,14 @@ pub fn withdraw_entry(line: &[u8]) -> Parsed
     let places = text_field::scan(line);
     let count = places.count;
     let area = line_entry::number_at(line, places, 1);
-    let v = refusals::weigh(Verdict::Clear, count != 2, Refusal::Form);
+    let v = refusals::weigh(Verdict::Accepted, count != 2, Refusal::Form);
     let v = line_entry::weigh_form(v, area);
     let v = line_entry::weigh_area(v, area);
     match v {
-        Verdict::Turned(refusal) => Parsed::Turned(refusal),
-        Verdict::Clear => Parsed::Taken(Entry::Withdraw {
+        Verdict::Refused(refusal) => Parsed::Refused(refusal),
+        Verdict::Accepted => Parsed::Taken(Entry::On(AreaAct {
             area: text_value::value_u16(area),
-        }),
+            act: Act::Withdraw,
+        })),
     }
 }

@@ -1,28 +1,15 @@
 -- Cells: a field of one byte stands for a place, and a turn of the scan adds a cell to what was judged and kept.
-use Prim.Native.Nat.{ℕ, _+_, _-_, _≤_, _<_}
-use mathlib.Core.Path.{_≡_, refl, sym, ap, _∙_}
-use mathlib.Core.Bool.{Bool, true, false, cond, _||_}
-use mathlib.Core.List.{List, [], _∷_}
-use native.Mathlib.Omega.{arith}
-use native.Mathlib.Numerals.{add-one}
-use borrow.Author.Tests.{lt-ltb, le-ltb}
-use lib.Dec.{eqb, lit≤}
-use lib.ListN.{length, getD, take, drop, set, length-drop, drop-of-length-le}
-use lib.Seq.{sets}
-use Rattle.laws.specs.Elements.{some}
-use Rattle.text.specs.Fields.{width, split}
+use Rattle.laws.proofs.{ℕ, _+_, _-_, _≤_, _<_, _≡_, refl, sym, ap, _∙_, Bool, true, false, cond, _||_, List, [], _∷_, arith, add-one, lt-ltb, le-ltb, eqb, lit≤, length, getD, take, drop, set, length-drop, drop-of-length-le, sets}
+use Rattle.laws.specs.{some}
+use Rattle.text.specs.{width, split}
 use Rattle.text.proofs.Fields.{field-last, field-comma}
-use Rattle.text_number.specs.declared.Number.{Number}
-use Rattle.text_value.specs.Ranges.{fitted}
-use Rattle.text_decimal.specs.Decimals.{cellIn}
-use Rattle.text_field.specs.declared.Places.{Places}
-use Rattle.text_field.specs.Places.{placesOf}
+use Rattle.text_number.specs.{Number}
+use Rattle.text_value.specs.{fitted}
+use Rattle.text_decimal.specs.{cellIn}
+use Rattle.text_field.specs.{Places, placesOf}
 use Rattle.text_field.proofs.Laws.{count-found}
-use Rattle.refusals.specs.declared.Refusal.the-variants.{OutputShort}
-use Rattle.refusals.specs.declared.Verdict.the-variants.{Clear, Turned}
-use Rattle.line_column.specs.declared.Place.{Place}
-use Rattle.line_column.specs.declared.Place.the-variants.{At, Nowhere}
-use Rattle.line_column.specs.Columns.{kindByte, typeByte, alone, kindOf, typeOf, placeOf, cellsOf, someCell, tenthsAll, cellsFound, roomFor, filled}
+use Rattle.refusals.specs.{Refusal, Verdict}
+use Rattle.line_column.specs.{Place, kindByte, typeByte, alone, kindOf, typeOf, placeOf, cellsOf, someCell, tenthsAll, cellsFound, roomFor, filled}
 
 pub one-byte : (place : ℕ → Place) (s : List ℕ) → length s ≡ 1 → place (getD s 0 0) ≡ alone place s
 unfolding alone
@@ -30,13 +17,13 @@ one-byte place [] h = absurd (omega arith)
 one-byte place (b ∷ []) h = refl
 one-byte place (b ∷ d ∷ s) h = absurd (omega arith)
 
-pub no-one-byte : (place : ℕ → Place) (s : List ℕ) → (length s ≡ 1 → ⊥) → Nowhere ≡ alone place s
+pub no-one-byte : (place : ℕ → Place) (s : List ℕ) → (length s ≡ 1 → ⊥) → Place.Nowhere ≡ alone place s
 unfolding alone
 no-one-byte place [] h = refl
 no-one-byte place (b ∷ []) h = absurd (h refl)
 no-one-byte place (b ∷ d ∷ s) h = refl
 
-pub no-place : (place : ℕ → Place) (s : List ℕ) → length s ≡ 1 → place (getD s 0 0) ≡ Nowhere → Nowhere ≡ alone place s
+pub no-place : (place : ℕ → Place) (s : List ℕ) → length s ≡ 1 → place (getD s 0 0) ≡ Place.Nowhere → Place.Nowhere ≡ alone place s
 no-place place s h e = sym e ∙ one-byte place s h
 
 -- ---- a turn of the scan
@@ -88,11 +75,11 @@ module _ (fs : List (List ℕ)) (h : length fs ≤ 3) where
   none-kept out = rw (drop-of-length-le fs h)
 
 module _ (fs : List (List ℕ)) (out : List ℕ) (n : ℕ) (e : n ≡ length (cellsOf fs)) where
-  pub short : length out < n → (Turned OutputShort ≡ roomFor fs out) × (out ≡ filled fs out)
+  pub short : length out < n → (Verdict.Refused Refusal.OutputShort ≡ roomFor fs out) × (out ≡ filled fs out)
   unfolding roomFor filled
   short l = let t = lt-ltb (length out) (length (cellsOf fs)) (omega arith) in (simp t, simp t)
 
-  pub enough : (kept : List ℕ) → n ≤ length out → kept ≡ sets out 0 (tenthsAll (cellsOf fs)) → (Clear ≡ roomFor fs out) × (kept ≡ filled fs out)
+  pub enough : (kept : List ℕ) → n ≤ length out → kept ≡ sets out 0 (tenthsAll (cellsOf fs)) → (Verdict.Accepted ≡ roomFor fs out) × (kept ≡ filled fs out)
   unfolding roomFor filled
   enough kept l q = let t = le-ltb (length out) (length (cellsOf fs)) (omega arith) in (simp t, q ∙ simp t)
 
@@ -108,7 +95,7 @@ pub kind-le : (p : Place) (s : List ℕ) → p ≡ kindOf s → placeOf p ≤ 5
 unfolding kindOf kindByte
 kind-le p s e = rw e (alone-le 5 kindByte s (λ b. go (eqb b 71) (eqb b 82)))
   where
-    go : (g r : Bool) → placeOf (cond g (At 0) (cond r (At 5) Nowhere)) ≤ 5
+    go : (g r : Bool) → placeOf (cond g (Place.At 0) (cond r (Place.At 5) Place.Nowhere)) ≤ 5
     go true r = lit≤ tt
     go false true = lit≤ tt
     go false false = lit≤ tt
@@ -117,7 +104,7 @@ pub type-le : (p : Place) (s : List ℕ) → p ≡ typeOf s → placeOf p ≤ 4
 unfolding typeOf typeByte
 type-le p s e = rw e (alone-le 4 typeByte s (λ b. go (eqb b 80) (eqb b 68) (eqb b 83) (eqb b 72) (eqb b 78)))
   where
-    go : (p d s h n : Bool) → placeOf (cond p (At 0) (cond d (At 1) (cond s (At 2) (cond h (At 3) (cond n (At 4) Nowhere))))) ≤ 4
+    go : (p d s h n : Bool) → placeOf (cond p (Place.At 0) (cond d (Place.At 1) (cond s (Place.At 2) (cond h (Place.At 3) (cond n (Place.At 4) Place.Nowhere))))) ≤ 4
     go true d s h n = lit≤ tt
     go false true s h n = lit≤ tt
     go false false true h n = lit≤ tt

@@ -1,42 +1,32 @@
 -- "T,kind,type,cells: kind G (stock) or R (residue); type P, D, S, H or N; 1 to 101 cells, each a number with at most one decimal, at most 3000."
-use Prim.Native.Nat.{ℕ, _+_}
-use mathlib.Core.Bool.{Bool, true, false, cond}
-use mathlib.Core.List.{List, [], _∷_, map}
-use lib.Dec.{eqb, leb, ltb}
-use lib.ListN.{length, drop}
+use Rattle.laws.specs.{ℕ, _+_, Bool, true, false, cond, List, [], _∷_, map, eqb, leb, ltb, length, drop, some}
 use lib.Seq.{sets}
-use Rattle.laws.specs.Elements.{some}
-use Rattle.text.specs.Fields.{fieldAt}
-use Rattle.text_number.specs.declared.Number.{Number}
-use Rattle.text_value.specs.Ranges.{malformed, outside, fitted}
-use Rattle.text_decimal.specs.Decimals.{cellIn}
-use Rattle.refusals.specs.declared.Refusal.the-variants.{Form, ForestType, TableColumn, OutputShort}
-use Rattle.refusals.specs.declared.Verdict.{Verdict}
-use Rattle.refusals.specs.declared.Verdict.the-variants.{Clear, Turned}
-use Rattle.refusals.specs.Refusals.{_⇒_}
-use Rattle.line_entry.specs.declared.Entry.the-variants.{Column}
-use Rattle.line_entry.specs.Rules.{Rule}
+use Rattle.text.specs.{fieldAt}
+use Rattle.text_number.specs.{Number}
+use Rattle.text_value.specs.{malformed, outside, fitted}
+use Rattle.text_decimal.specs.{cellIn}
+use Rattle.refusals.specs.{Verdict, _⇒_, Refusal}
+use Rattle.line_entry.specs.{Rule, Entry}
 use Rattle.line_column.specs.declared.Place.{Place}
-use Rattle.line_column.specs.declared.Place.the-variants.{At, Nowhere}
 use Rattle.line_column.specs.declared.Cells.{Cells}
 
 -- the columns are numbered "for stock of P, D, S, H, N, then residue in that order"
 unfoldable pub kindByte : ℕ → Place
-kindByte b = cond (eqb b 71) (At 0) (cond (eqb b 82) (At 5) Nowhere)
+kindByte b = cond (eqb b 71) (Place.At 0) (cond (eqb b 82) (Place.At 5) Place.Nowhere)
 
 unfoldable pub typeByte : ℕ → Place
 typeByte b =
-    cond (eqb b 80) (At 0)
-    (cond (eqb b 68) (At 1)
-    (cond (eqb b 83) (At 2)
-    (cond (eqb b 72) (At 3)
-    (cond (eqb b 78) (At 4) Nowhere))))
+    cond (eqb b 80) (Place.At 0)
+    (cond (eqb b 68) (Place.At 1)
+    (cond (eqb b 83) (Place.At 2)
+    (cond (eqb b 72) (Place.At 3)
+    (cond (eqb b 78) (Place.At 4) Place.Nowhere))))
 
 -- what a field of one byte stands for
 unfoldable pub alone : (ℕ → Place) → List ℕ → Place
-alone place [] = Nowhere
+alone place [] = Place.Nowhere
 alone place (b ∷ []) = place b
-alone place (b ∷ c ∷ bs) = Nowhere
+alone place (b ∷ c ∷ bs) = Place.Nowhere
 
 unfoldable pub kindOf : List ℕ → Place
 kindOf field = alone kindByte field
@@ -45,12 +35,12 @@ unfoldable pub typeOf : List ℕ → Place
 typeOf field = alone typeByte field
 
 abbrev pub nowhere : Place → Bool
-nowhere (At k) = false
-nowhere Nowhere = true
+nowhere (Place.At k) = false
+nowhere Place.Nowhere = true
 
 abbrev pub placeOf : Place → ℕ
-placeOf (At k) = k
-placeOf Nowhere = 0
+placeOf (Place.At k) = k
+placeOf Place.Nowhere = 0
 
 -- the place of the first cell among a line's fields
 abbrev pub firstCell : ℕ
@@ -78,14 +68,14 @@ badCell n = outside 0 greatestCell n
 unfoldable pub columnRule : List (List ℕ) → Rule
 columnRule fs = let kind = kindOf (fieldAt fs 1) in let type = typeOf (fieldAt fs 2) in record {
   cases =
-      leb (length fs) firstCell ⇒ Form
-      ∷ nowhere kind ⇒ Form
-      ∷ someCell malformed (cellsOf fs) ⇒ Form
-      ∷ nowhere type ⇒ ForestType
-      ∷ ltb mostCells (length (cellsOf fs)) ⇒ TableColumn
-      ∷ someCell badCell (cellsOf fs) ⇒ TableColumn
+      leb (length fs) firstCell ⇒ Refusal.Form
+      ∷ nowhere kind ⇒ Refusal.Form
+      ∷ someCell malformed (cellsOf fs) ⇒ Refusal.Form
+      ∷ nowhere type ⇒ Refusal.ForestType
+      ∷ ltb mostCells (length (cellsOf fs)) ⇒ Refusal.TableColumn
+      ∷ someCell badCell (cellsOf fs) ⇒ Refusal.TableColumn
       ∷ [];
-  entry = Column (placeOf kind + placeOf type) (length (cellsOf fs));
+  entry = Entry.Column (placeOf kind + placeOf type);
 }
 
 -- a cell's tenths; a field that is no cell counts as 0
@@ -101,7 +91,7 @@ cellsFound fs = record { malformed = someCell malformed fs; over = someCell badC
 
 -- "8 output shorter than needed": the cells read into lent numbers, all of them or none
 unfoldable pub roomFor : List (List ℕ) → List ℕ → Verdict
-roomFor fs out = cond (ltb (length out) (length (cellsOf fs))) (Turned OutputShort) Clear
+roomFor fs out = cond (ltb (length out) (length (cellsOf fs))) (Verdict.Refused Refusal.OutputShort) Verdict.Accepted
 
 unfoldable pub filled : List (List ℕ) → List ℕ → List ℕ
 filled fs out = cond (ltb (length out) (length (cellsOf fs))) out (sets out 0 (tenthsAll (cellsOf fs)))

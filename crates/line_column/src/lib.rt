@@ -3,10 +3,10 @@ ghost use mathlib.Core.Path.{_≡_};
 ghost use Prim.Native.Nat.{_-_, _≤_};
 ghost use lib.ListN.{length, drop, set};
 ghost use lib.Seq.{sets};
-ghost use Rattle.text.specs.Fields.{split};
-ghost use Rattle.line_entry.specs.Rules.{parsedBy};
-ghost use Rattle.text_field.specs.Places.{placesOf};
-ghost use Rattle.line_column.specs.Columns.{kindOf, typeOf, nowhere, placeOf, firstCell, cellsOf, cellsFound, tenthsAll, columnRule, roomFor, filled};
+ghost use Rattle.text.specs.{split};
+ghost use Rattle.line_entry.specs.{parsedBy};
+ghost use Rattle.text_field.specs.{placesOf};
+ghost use Rattle.line_column.specs.{kindOf, typeOf, nowhere, placeOf, firstCell, cellsOf, cellsFound, tenthsAll, columnRule, roomFor, filled};
 use line_entry::Entry;
 use line_entry::Parsed;
 use refusals::Refusal;
@@ -150,17 +150,16 @@ pub fn column_entry(line: &[u8]) -> Parsed
     let named = type_of(text_field::field(line, places, 2));
     let mut unkept = [0u16; 1];
     let cells = all_cells(line, places, &mut unkept);
-    let v = refusals::weigh(Verdict::Clear, count <= FIRST_CELL, Refusal::Form);
+    let v = refusals::weigh(Verdict::Accepted, count <= FIRST_CELL, Refusal::Form);
     let v = refusals::weigh(v, is_nowhere(kind), Refusal::Form);
     let v = refusals::weigh(v, cells.malformed, Refusal::Form);
     let v = refusals::weigh(v, is_nowhere(named), Refusal::ForestType);
     let v = refusals::weigh(v, MOST_CELLS < number, Refusal::TableColumn);
     let v = refusals::weigh(v, cells.over, Refusal::TableColumn);
     match v {
-        Verdict::Turned(refusal) => Parsed::Turned(refusal),
-        Verdict::Clear => Parsed::Taken(Entry::Column {
+        Verdict::Refused(refusal) => Parsed::Refused(refusal),
+        Verdict::Accepted => Parsed::Taken(Entry::Column {
             column: place_of(kind) + place_of(named),
-            cells: number,
         }),
     }
 }
@@ -174,8 +173,8 @@ pub fn read_cells(line: &[u8], cells: &mut [u16]) -> Verdict
     let count = places.count;
     let number = cell_count(count);
     if cells.len() < number {
-        return Verdict::Turned(Refusal::OutputShort);
+        return Verdict::Refused(Refusal::OutputShort);
     }
     all_cells(line, places, cells);
-    Verdict::Clear
+    Verdict::Accepted
 }

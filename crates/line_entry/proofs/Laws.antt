@@ -1,35 +1,23 @@
 -- Rules: what a verdict makes of an entry, and that every letter's table rises, so that what refuses is the smallest number that applies.
-use Prim.Native.Nat.{ℕ, _≤_, _<_}
-use mathlib.Core.Path.{_≡_, sym, ap, _∙_}
-use mathlib.Core.Bool.{Bool, true, false}
-use lib.Dec.{lit≤}
-use mathlib.Core.List.{List}
-use Rattle.forest.specs.declared.Named.{Named}
-use Rattle.forest.specs.declared.Named.the-variants.{Listed, Unlisted}
-use Rattle.text.specs.Fields.{split, fieldAt}
-use Rattle.text_number.specs.declared.Number.{Number}
-use Rattle.text_number.specs.Numbers.{numberIn}
-use Rattle.text_value.specs.Ranges.{outside, valueOf, fitted}
+use Rattle.laws.proofs.{ℕ, _≤_, _<_, _≡_, sym, ap, _∙_, Bool, true, false, lit≤, List}
+use Rattle.forest.specs.{Named}
+use Rattle.text.specs.{split, fieldAt}
+use Rattle.text_number.specs.{Number, numberIn}
+use Rattle.text_value.specs.{outside, valueOf, fitted}
 use Rattle.text_value.proofs.Laws.{fitted-is}
-use Rattle.text_field.specs.declared.Places.{Places}
-use Rattle.text_field.specs.Places.{placesOf, part}
+use Rattle.text_field.specs.{Places, placesOf, part}
 use Rattle.text_field.proofs.Laws.{field-found}
-use Rattle.refusals.specs.declared.Refusal.{Refusal}
-use Rattle.refusals.specs.declared.Verdict.{Verdict}
-use Rattle.refusals.specs.declared.Verdict.the-variants.{Clear, Turned as TurnedBy}
-use Rattle.line_entry.specs.declared.Entry.{Entry}
-use Rattle.line_entry.specs.declared.Parsed.the-variants.{Taken, Turned}
-use Rattle.ranges.specs.Ranges.{isBare}
-use Rattle.line_type.specs.Types.{misdatedIf, misdated}
-use Rattle.line_entry.specs.Ranges.{numberAt}
-use Rattle.line_entry.specs.Rules.{parsed}
+use Rattle.refusals.specs.{Refusal, Verdict}
+use Rattle.line_entry.specs.{Entry, numberAt, parsed, Parsed}
+use Rattle.ranges.specs.{isBare}
+use Rattle.line_type.specs.{misdatedIf, misdated}
 
 -- the verdict w that was reached is the definition's, v
-pub turned : (v w : Verdict) (e : Entry) (r : Refusal) → w ≡ v → w ≡ TurnedBy r → Turned r ≡ parsed v e
+pub turned : (v w : Verdict) (e : Entry) (r : Refusal) → w ≡ v → w ≡ Verdict.Refused r → Parsed.Refused r ≡ parsed v e
 unfolding parsed
 turned v w e r p q = simp (sym p, q)
 
-pub taken : (v w : Verdict) (e f : Entry) → w ≡ v → w ≡ Clear → f ≡ e → Taken f ≡ parsed v e
+pub taken : (v w : Verdict) (e f : Entry) → w ≡ v → w ≡ Verdict.Accepted → f ≡ e → Parsed.Taken f ≡ parsed v e
 unfolding parsed
 taken v w e f p q h = simp (sym p, q, h)
 
@@ -53,5 +41,5 @@ planted-found type n m v e q i = go type i
     dated false i = value-found 1900 2199 65535 n m v e q (lit≤ tt) i
 
     go : (type : Named) → misdated type m ≡ false → v ≡ valueOf m
-    go (Listed forest) i = dated (isBare forest) i
-    go Unlisted i = dated false i
+    go (Named.Listed forest) i = dated (isBare forest) i
+    go Named.Unlisted i = dated false i

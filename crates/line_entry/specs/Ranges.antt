@@ -1,15 +1,11 @@
 -- The ranges that an entry's fields keep, and the numbers under which they are refused.
-use Prim.Native.Nat.{ℕ}
-use mathlib.Core.Bool.{Bool}
-use mathlib.Core.List.{List}
-use Rattle.forest.specs.declared.Named.{Named}
-use Rattle.forest.specs.Letters.{named}
-use Rattle.text.specs.Fields.{fieldAt}
-use Rattle.text_number.specs.declared.Number.{Number}
-use Rattle.text_number.specs.Numbers.{numberIn}
-use Rattle.text_value.specs.Ranges.{outside}
-use Rattle.text_decimal.specs.Decimals.{hectaresIn}
-use Rattle.ranges.specs.Ranges.{lastArea, lastSub, firstYear, lastYear, leastHectares, mostHectares}
+use Rattle.laws.specs.{ℕ, Bool, List}
+use Rattle.forest.specs.{Named, named}
+use Rattle.text.specs.{fieldAt}
+use Rattle.text_number.specs.{Number, numberIn}
+use Rattle.text_value.specs.{outside}
+use Rattle.text_decimal.specs.{hectaresIn}
+use Rattle.ranges.specs.{lastArea, lastSub, firstYear, lastYear, leastHectares, mostHectares}
 
 -- the field at a place, read
 abbrev pub numberAt : List (List ℕ) → ℕ → Number

@@ -1,22 +1,19 @@
 -- "Entries" of document 01, letter by letter: the cases in which its fields are refused, by rising number, and the entry otherwise.
 -- The form of the whole line is judged first.
-use Prim.Native.Nat.{ℕ}
-use mathlib.Core.Bool.{Bool, not}
-use mathlib.Core.List.{List, [], _∷_}
-use lib.Dec.{eqb}
-use lib.ListN.{length}
-use Rattle.units.specs.Units.{tenthsOf}
-use Rattle.text_value.specs.Ranges.{malformed, valueOf}
-use Rattle.line_type.specs.Types.{unlisted, unplantable, misdated, forestOf}
-use Rattle.refusals.specs.declared.Refusal.the-variants.{Form, AreaOrSubNumber, ForestType, Hectares, YearRange}
-use Rattle.refusals.specs.declared.Verdict.{Verdict}
-use Rattle.refusals.specs.declared.Verdict.the-variants.{Clear, Turned as TurnedBy}
-use Rattle.refusals.specs.Refusals.{Case, _⇒_, smallest}
+use Rattle.laws.specs.{ℕ, Bool, not, List, [], _∷_, eqb, length}
+use Rattle.units.specs.{tenthsOf}
+use Rattle.text_value.specs.{malformed, valueOf}
+use Rattle.line_type.specs.{unlisted, unplantable, misdated, forestOf}
+use Rattle.refusals.specs.{Verdict, Case, _⇒_, smallest, Refusal}
+use Rattle.line_entry.specs.declared.Act.{Act}
+use Rattle.line_entry.specs.declared.AreaAct.{AreaAct}
 use Rattle.line_entry.specs.declared.Entry.{Entry}
-use Rattle.line_entry.specs.declared.Entry.the-variants.{Open, Add, Clear as Clearing, Plant, File, Withdraw}
 use Rattle.line_entry.specs.declared.Parsed.{Parsed}
-use Rattle.line_entry.specs.declared.Parsed.the-variants.{Taken, Turned}
 use Rattle.line_entry.specs.Ranges.{numberAt, hectaresAt, typeAt, badArea, badSub, badHectares, badYear}
+
+-- an act on an area
+abbrev pub on : ℕ → Act → AreaAct
+on area act = record { area = area; act = act }
 
 -- the cases that turn a line's fields back, and the entry where none applies
 pub record Rule : Type 0 where
@@ -24,8 +21,8 @@ pub record Rule : Type 0 where
   pub entry : Entry
 
 unfoldable pub parsed : Verdict → Entry → Parsed
-parsed Clear e = Taken e
-parsed (TurnedBy r) e = Turned r
+parsed Verdict.Accepted e = Parsed.Taken e
+parsed (Verdict.Refused r) e = Parsed.Refused r
 
 -- "The smallest number that applies is given, otherwise none"
 abbrev pub parsedBy : Rule → Parsed
@@ -40,20 +37,20 @@ unfoldable pub areaAndYear : List (List ℕ) → List Case
 areaAndYear fs =
     let area = numberAt fs 1 in
     let year = numberAt fs 2 in
-    miscounted 3 fs ⇒ Form
-    ∷ malformed area ⇒ Form
-    ∷ malformed year ⇒ Form
-    ∷ badArea area ⇒ AreaOrSubNumber
-    ∷ badYear year ⇒ YearRange
+    miscounted 3 fs ⇒ Refusal.Form
+    ∷ malformed area ⇒ Refusal.Form
+    ∷ malformed year ⇒ Refusal.Form
+    ∷ badArea area ⇒ Refusal.AreaOrSubNumber
+    ∷ badYear year ⇒ Refusal.YearRange
     ∷ []
 
 -- "A,area,opening: opens an area on 1 January of opening (2008 to 2199)."
 unfoldable pub openRule : List (List ℕ) → Rule
-openRule fs = record { cases = areaAndYear fs; entry = Open (valueOf (numberAt fs 1)) (valueOf (numberAt fs 2)) }
+openRule fs = record { cases = areaAndYear fs; entry = Entry.On (on (valueOf (numberAt fs 1)) (Act.Open (valueOf (numberAt fs 2)))) }
 
 -- "R,area,last: return from the open year to 31 December of last (2008 to 2199)."
 unfoldable pub fileRule : List (List ℕ) → Rule
-fileRule fs = record { cases = areaAndYear fs; entry = File (valueOf (numberAt fs 1)) (valueOf (numberAt fs 2)) }
+fileRule fs = record { cases = areaAndYear fs; entry = Entry.On (on (valueOf (numberAt fs 1)) (Act.File (valueOf (numberAt fs 2)))) }
 
 -- "S,area,sub,hectares,type,planted"
 unfoldable pub addRule : List (List ℕ) → Rule
@@ -65,33 +62,33 @@ addRule fs =
     let planted = numberAt fs 5 in
     record {
       cases =
-          miscounted 6 fs ⇒ Form
-          ∷ malformed area ⇒ Form
-          ∷ malformed sub ⇒ Form
-          ∷ malformed hectares ⇒ Form
-          ∷ malformed planted ⇒ Form
-          ∷ badArea area ⇒ AreaOrSubNumber
-          ∷ badSub sub ⇒ AreaOrSubNumber
-          ∷ unlisted type ⇒ ForestType
-          ∷ badHectares hectares ⇒ Hectares
-          ∷ misdated type planted ⇒ YearRange
+          miscounted 6 fs ⇒ Refusal.Form
+          ∷ malformed area ⇒ Refusal.Form
+          ∷ malformed sub ⇒ Refusal.Form
+          ∷ malformed hectares ⇒ Refusal.Form
+          ∷ malformed planted ⇒ Refusal.Form
+          ∷ badArea area ⇒ Refusal.AreaOrSubNumber
+          ∷ badSub sub ⇒ Refusal.AreaOrSubNumber
+          ∷ unlisted type ⇒ Refusal.ForestType
+          ∷ badHectares hectares ⇒ Refusal.Hectares
+          ∷ misdated type planted ⇒ Refusal.YearRange
           ∷ [];
-      entry = Add (valueOf area) (valueOf sub) (tenthsOf (valueOf hectares)) (forestOf type) (valueOf planted);
+      entry = Entry.On (on (valueOf area) (Act.Add (valueOf sub) (tenthsOf (valueOf hectares)) (forestOf type) (valueOf planted)));
     }
 
 -- "C,area,sub,year clears"
 unfoldable pub clearRule : List (List ℕ) → Rule
 clearRule fs = let area = numberAt fs 1 in let sub = numberAt fs 2 in let year = numberAt fs 3 in record {
   cases =
-      miscounted 4 fs ⇒ Form
-      ∷ malformed area ⇒ Form
-      ∷ malformed sub ⇒ Form
-      ∷ malformed year ⇒ Form
-      ∷ badArea area ⇒ AreaOrSubNumber
-      ∷ badSub sub ⇒ AreaOrSubNumber
-      ∷ badYear year ⇒ YearRange
+      miscounted 4 fs ⇒ Refusal.Form
+      ∷ malformed area ⇒ Refusal.Form
+      ∷ malformed sub ⇒ Refusal.Form
+      ∷ malformed year ⇒ Refusal.Form
+      ∷ badArea area ⇒ Refusal.AreaOrSubNumber
+      ∷ badSub sub ⇒ Refusal.AreaOrSubNumber
+      ∷ badYear year ⇒ Refusal.YearRange
       ∷ [];
-  entry = Clearing (valueOf area) (valueOf sub) (valueOf year);
+  entry = Entry.On (on (valueOf area) (Act.Clear (valueOf sub) (valueOf year)));
 }
 
 -- "P,area,sub,type,year plants (type not B)"
@@ -103,25 +100,25 @@ plantRule fs =
     let year = numberAt fs 4 in
     record {
       cases =
-          miscounted 5 fs ⇒ Form
-          ∷ malformed area ⇒ Form
-          ∷ malformed sub ⇒ Form
-          ∷ malformed year ⇒ Form
-          ∷ badArea area ⇒ AreaOrSubNumber
-          ∷ badSub sub ⇒ AreaOrSubNumber
-          ∷ unplantable type ⇒ ForestType
-          ∷ badYear year ⇒ YearRange
+          miscounted 5 fs ⇒ Refusal.Form
+          ∷ malformed area ⇒ Refusal.Form
+          ∷ malformed sub ⇒ Refusal.Form
+          ∷ malformed year ⇒ Refusal.Form
+          ∷ badArea area ⇒ Refusal.AreaOrSubNumber
+          ∷ badSub sub ⇒ Refusal.AreaOrSubNumber
+          ∷ unplantable type ⇒ Refusal.ForestType
+          ∷ badYear year ⇒ Refusal.YearRange
           ∷ [];
-      entry = Plant (valueOf area) (valueOf sub) (forestOf type) (valueOf year);
+      entry = Entry.On (on (valueOf area) (Act.Plant (valueOf sub) (forestOf type) (valueOf year)));
     }
 
 -- "W,area: withdraws the area."
 unfoldable pub withdrawRule : List (List ℕ) → Rule
 withdrawRule fs = let area = numberAt fs 1 in record {
   cases =
-      miscounted 2 fs ⇒ Form
-      ∷ malformed area ⇒ Form
-      ∷ badArea area ⇒ AreaOrSubNumber
+      miscounted 2 fs ⇒ Refusal.Form
+      ∷ malformed area ⇒ Refusal.Form
+      ∷ badArea area ⇒ Refusal.AreaOrSubNumber
       ∷ [];
-  entry = Withdraw (valueOf area);
+  entry = Entry.On (on (valueOf area) Act.Withdraw);
 }

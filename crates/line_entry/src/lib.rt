@@ -1,11 +1,10 @@
 // The entries of a book, and the judging that their letters share.
 ghost use mathlib.Core.Path.{_≡_};
-ghost use Rattle.text_number.specs.Numbers.{numberIn};
-ghost use Rattle.text_value.specs.Ranges.{malformed};
-ghost use Rattle.text_field.specs.Places.{part};
-ghost use Rattle.refusals.specs.Refusals.{weighed};
-ghost use Rattle.refusals.specs.declared.Refusal.the-variants.{Form, AreaOrSubNumber, YearRange};
-ghost use Rattle.line_entry.specs.Ranges.{badArea, badSub, badYear};
+ghost use Rattle.text_number.specs.{numberIn};
+ghost use Rattle.text_value.specs.{malformed};
+ghost use Rattle.text_field.specs.{part};
+ghost use Rattle.refusals.specs.{weighed};
+ghost use Rattle.line_entry.specs.{badArea, badSub, badYear};
 use forest::Forest;
 use refusals::Refusal;
 use refusals::Verdict;
@@ -14,47 +13,47 @@ use text_field::Places;
 use text_number::Number;
 use units::Tenths;
 
-pub enum Entry {
+// What an entry does to the accounting area that it names: A, S, C, P, R and W.
+pub enum Act {
     Open {
-        area: u16,
         opening: u16,
     },
     Add {
-        area: u16,
         sub: u8,
         land: Tenths,
         forest: Forest,
         planted: u16,
     },
     Clear {
-        area: u16,
         sub: u8,
         year: u16,
     },
     Plant {
-        area: u16,
         sub: u8,
         forest: Forest,
         year: u16,
     },
     File {
-        area: u16,
         last: u16,
     },
-    Withdraw {
-        area: u16,
-    },
-    // A column of the participant's table, 0 to 9, and how many cells its line has.
-    Column {
-        column: usize,
-        cells: usize,
-    },
+    Withdraw,
+}
+
+pub struct AreaAct {
+    pub area: u16,
+    pub act: Act,
+}
+
+// T names a column of the participant's table, 0 to 9; its cells stay in the line. Every other entry is an act on an area.
+pub enum Entry {
+    Column { column: usize },
+    On(AreaAct),
 }
 
 // What a line says.
 pub enum Parsed {
     Taken(Entry),
-    Turned(Refusal),
+    Refused(Refusal),
 }
 
 // The number in the field at a place.
@@ -65,13 +64,13 @@ pub fn number_at(line: &[u8], places: Places, k: usize) -> Number
 }
 
 pub fn weigh_form(so_far: Verdict, number: Number) -> Verdict
-    ensures { λ r. ⌜ r ≡ weighed «so_far» (malformed number) Form ⌝ }
+    ensures { λ r. ⌜ r ≡ weighed «so_far» (malformed number) Refusal.Form ⌝ }
 {
     weigh(so_far, text_value::is_malformed(number), Refusal::Form)
 }
 
 pub fn weigh_area(so_far: Verdict, area: Number) -> Verdict
-    ensures { λ r. ⌜ r ≡ weighed «so_far» (badArea area) AreaOrSubNumber ⌝ }
+    ensures { λ r. ⌜ r ≡ weighed «so_far» (badArea area) Refusal.AreaOrSubNumber ⌝ }
 {
     weigh(
         so_far,
@@ -81,7 +80,7 @@ pub fn weigh_area(so_far: Verdict, area: Number) -> Verdict
 }
 
 pub fn weigh_sub(so_far: Verdict, sub: Number) -> Verdict
-    ensures { λ r. ⌜ r ≡ weighed «so_far» (badSub sub) AreaOrSubNumber ⌝ }
+    ensures { λ r. ⌜ r ≡ weighed «so_far» (badSub sub) Refusal.AreaOrSubNumber ⌝ }
 {
     weigh(
         so_far,
@@ -91,7 +90,7 @@ pub fn weigh_sub(so_far: Verdict, sub: Number) -> Verdict
 }
 
 pub fn weigh_year(so_far: Verdict, year: Number) -> Verdict
-    ensures { λ r. ⌜ r ≡ weighed «so_far» (badYear year) YearRange ⌝ }
+    ensures { λ r. ⌜ r ≡ weighed «so_far» (badYear year) Refusal.YearRange ⌝ }
 {
     weigh(
         so_far,

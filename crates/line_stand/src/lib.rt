@@ -1,7 +1,9 @@
 // The entries of a sub-area's stand: C clears it, P plants it.
 ghost use mathlib.Core.Path.{_≡_};
-ghost use Rattle.text.specs.Fields.{split};
-ghost use Rattle.line_entry.specs.Rules.{parsedBy, clearRule, plantRule};
+ghost use Rattle.text.specs.{split};
+ghost use Rattle.line_entry.specs.{parsedBy, clearRule, plantRule};
+use line_entry::Act;
+use line_entry::AreaAct;
 use line_entry::Entry;
 use line_entry::Parsed;
 use refusals::Refusal;
@@ -16,7 +18,7 @@ pub fn clear_entry(line: &[u8]) -> Parsed
     let area = line_entry::number_at(line, places, 1);
     let sub = line_entry::number_at(line, places, 2);
     let year = line_entry::number_at(line, places, 3);
-    let v = refusals::weigh(Verdict::Clear, count != 4, Refusal::Form);
+    let v = refusals::weigh(Verdict::Accepted, count != 4, Refusal::Form);
     let v = line_entry::weigh_form(v, area);
     let v = line_entry::weigh_form(v, sub);
     let v = line_entry::weigh_form(v, year);
@@ -24,12 +26,14 @@ pub fn clear_entry(line: &[u8]) -> Parsed
     let v = line_entry::weigh_sub(v, sub);
     let v = line_entry::weigh_year(v, year);
     match v {
-        Verdict::Turned(refusal) => Parsed::Turned(refusal),
-        Verdict::Clear => Parsed::Taken(Entry::Clear {
+        Verdict::Refused(refusal) => Parsed::Refused(refusal),
+        Verdict::Accepted => Parsed::Taken(Entry::On(AreaAct {
             area: text_value::value_u16(area),
-            sub: text_value::value_u8(sub),
-            year: text_value::value_u16(year),
-        }),
+            act: Act::Clear {
+                sub: text_value::value_u8(sub),
+                year: text_value::value_u16(year),
+            },
+        })),
     }
 }
 
@@ -43,7 +47,7 @@ pub fn plant_entry(line: &[u8]) -> Parsed
     let sub = line_entry::number_at(line, places, 2);
     let named = forest::read(text_field::field(line, places, 3));
     let year = line_entry::number_at(line, places, 4);
-    let v = refusals::weigh(Verdict::Clear, count != 5, Refusal::Form);
+    let v = refusals::weigh(Verdict::Accepted, count != 5, Refusal::Form);
     let v = line_entry::weigh_form(v, area);
     let v = line_entry::weigh_form(v, sub);
     let v = line_entry::weigh_form(v, year);
@@ -52,12 +56,14 @@ pub fn plant_entry(line: &[u8]) -> Parsed
     let v = refusals::weigh(v, line_type::is_unplantable(named), Refusal::ForestType);
     let v = line_entry::weigh_year(v, year);
     match v {
-        Verdict::Turned(refusal) => Parsed::Turned(refusal),
-        Verdict::Clear => Parsed::Taken(Entry::Plant {
+        Verdict::Refused(refusal) => Parsed::Refused(refusal),
+        Verdict::Accepted => Parsed::Taken(Entry::On(AreaAct {
             area: text_value::value_u16(area),
-            sub: text_value::value_u8(sub),
-            forest: line_type::forest_of(named),
-            year: text_value::value_u16(year),
-        }),
+            act: Act::Plant {
+                sub: text_value::value_u8(sub),
+                forest: line_type::forest_of(named),
+                year: text_value::value_u16(year),
+            },
+        })),
     }
 }

@@ -1,7 +1,9 @@
 // The entry of a sub-area: S adds it.
 ghost use mathlib.Core.Path.{_≡_};
-ghost use Rattle.text.specs.Fields.{split};
-ghost use Rattle.line_entry.specs.Rules.{parsedBy, addRule};
+ghost use Rattle.text.specs.{split};
+ghost use Rattle.line_entry.specs.{parsedBy, addRule};
+use line_entry::Act;
+use line_entry::AreaAct;
 use line_entry::Entry;
 use line_entry::Parsed;
 use refusals::Refusal;
@@ -22,7 +24,7 @@ pub fn add_entry(line: &[u8]) -> Parsed
     let hectares = text_decimal::hectares(text_field::field(line, places, 3));
     let named = forest::read(text_field::field(line, places, 4));
     let planted = line_entry::number_at(line, places, 5);
-    let v = refusals::weigh(Verdict::Clear, count != 6, Refusal::Form);
+    let v = refusals::weigh(Verdict::Accepted, count != 6, Refusal::Form);
     let v = line_entry::weigh_form(v, area);
     let v = line_entry::weigh_form(v, sub);
     let v = line_entry::weigh_form(v, hectares);
@@ -38,13 +40,15 @@ pub fn add_entry(line: &[u8]) -> Parsed
         Refusal::YearRange,
     );
     match v {
-        Verdict::Turned(refusal) => Parsed::Turned(refusal),
-        Verdict::Clear => Parsed::Taken(Entry::Add {
+        Verdict::Refused(refusal) => Parsed::Refused(refusal),
+        Verdict::Accepted => Parsed::Taken(Entry::On(AreaAct {
             area: text_value::value_u16(area),
-            sub: text_value::value_u8(sub),
-            land: units::rounded(text_value::value_u32(hectares)),
-            forest: line_type::forest_of(named),
-            planted: text_value::value_u16(planted),
-        }),
+            act: Act::Add {
+                sub: text_value::value_u8(sub),
+                land: units::rounded(text_value::value_u32(hectares)),
+                forest: line_type::forest_of(named),
+                planted: text_value::value_u16(planted),
+            },
+        })),
     }
 }

@@ -1,1 +1,2 @@
 pub mod Types
+pub use Types.{unlisted, unplantable, misdatedIf, misdated, forestOf}

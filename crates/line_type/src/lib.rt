@@ -1,6 +1,6 @@
 // What the type that a line names allows.
 ghost use mathlib.Core.Path.{_≡_};
-ghost use Rattle.line_type.specs.Types.{unlisted, unplantable, misdatedIf, misdated, forestOf};
+ghost use Rattle.line_type.specs.{unlisted, unplantable, misdatedIf, misdated, forestOf};
 use forest::Forest;
 use forest::Named;
 use text_number::Number;

@@ -1,10 +1,7 @@
 -- The ranges of document 01's "Entries". "A reader accepts it exactly when fields keep the ranges above": a statement's fields keep them too.
-use Prim.Native.Nat.{ℕ}
-use mathlib.Core.Bool.{Bool, true, false, not, _&&_, _||_}
-use lib.Dec.{eqb, leb}
-use Rattle.forest.specs.declared.Forest.{Forest}
-use Rattle.forest.specs.declared.Forest.the-variants.{Bare, Radiata, DouglasFir, ExoticSoftwoods, ExoticHardwoods, Indigenous}
-use Rattle.units.specs.declared.Tenths.{Tenths}
+use Rattle.laws.specs.{ℕ, Bool, true, false, not, _&&_, _||_, eqb, leb}
+use Rattle.forest.specs.{Forest}
+use Rattle.units.specs.{Tenths}
 
 abbrev pub lastArea : ℕ
 lastArea = 999
@@ -37,12 +34,12 @@ mostLand = 100000
 
 -- "Bare land is type B"
 abbrev pub isBare : Forest → Bool
-isBare Bare = true
-isBare (Radiata region) = false
-isBare DouglasFir = false
-isBare ExoticSoftwoods = false
-isBare ExoticHardwoods = false
-isBare Indigenous = false
+isBare Forest.Bare = true
+isBare (Forest.Radiata region) = false
+isBare Forest.DouglasFir = false
+isBare Forest.ExoticSoftwoods = false
+isBare Forest.ExoticHardwoods = false
+isBare Forest.Indigenous = false
 
 -- "Areas are 1 to 999."
 abbrev pub isArea : ℕ → Bool

@@ -1,7 +1,7 @@
 // The ranges of document 01's entries, which the fields of a carried statement keep too.
 ghost use mathlib.Core.Path.{_≡_};
 ghost use Prim.Native.Nat.{_-_};
-ghost use Rattle.ranges.specs.Ranges.{isBare, isArea, isSub, isYear, isLand, isPlanted};
+ghost use Rattle.ranges.specs.{isBare, isArea, isSub, isYear, isLand, isPlanted};
 use forest::Forest;
 use units::Tenths;
 

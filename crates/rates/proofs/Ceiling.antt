@@ -1,25 +1,14 @@
 -- No rate is over 30,000 tenths: a cell is one of its column, and a column is a part of a table that keeps the ceiling.
-use Prim.Native.Nat.{ℕ, _-_, _≤_, min}
-use mathlib.Core.Path.{_≡_, refl}
-use mathlib.Core.Bool.{Bool, true, false, cond, _&&_, _||_}
-use mathlib.Core.List.{List}
-use native.Mathlib.Omega.{arith}
-use lib.Dec.{eqb, leb, ltb}
-use borrow.Author.Tests.{eqb-true}
-use lib.ListN.{length, getD, take, drop, drop-of-length-le}
-use lib.Seq.{drop-drop}
-use Rattle.laws.specs.Lists.{eachAtMost, sumOf}
+use Rattle.laws.proofs.{ℕ, _-_, _≤_, min, _≡_, refl, Bool, true, false, cond, _&&_, _||_, List, arith, eqb, leb, ltb, eqb-true, length, getD, take, drop, drop-of-length-le, drop-drop}
+use Rattle.laws.specs.{eachAtMost, sumOf}
 use Rattle.laws.proofs.Lists.{and-right, ceiling-at, ceiling-take, ceiling-drop}
-use Rattle.forest.specs.declared.Forest.{Forest}
-use Rattle.schedules.specs.declared.Kind.{Kind}
-use Rattle.schedules.specs.declared.Place.{Place}
-use Rattle.schedules.specs.Columns.{Column, listed}
-use Rattle.schedules.specs.Schedules.{cellCeiling, schedule4, schedule6, placeFour, placeSix}
+use Rattle.forest.specs.{Forest}
+use Rattle.schedules.specs.{Kind, Place, Column, listed, cellCeiling, schedule4, schedule6, placeFour, placeSix}
 use Rattle.schedules.proofs.Ceiling.{four-ceiling, six-ceiling}
-use Rattle.table_parts.specs.Parts.{columnCount, lengthsOf, cellsOf, lengthOf}
-use Rattle.table.specs.Participant.{longestColumn, hasColumns, isTable}
-use Rattle.table_lent.specs.Lent.{ownColumn}
-use Rattle.rates.specs.Rates.{ownNumber, atPlace, consulted, cellAt, rateSix, rateFour}
+use Rattle.table_parts.specs.{columnCount, lengthsOf, cellsOf, lengthOf}
+use Rattle.table.specs.{longestColumn, hasColumns, isTable}
+use Rattle.table_lent.specs.{ownColumn}
+use Rattle.rates.specs.{ownNumber, atPlace, consulted, cellAt, rateSix, rateFour}
 
 -- a column that keeps the ceiling
 abbrev Kept : Column → Type 0

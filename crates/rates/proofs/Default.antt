@@ -1,18 +1,11 @@
 -- Where Schedule 6 and Schedule 4 are what is lent, a type's part is its column of the schedule.
-use mathlib.Core.Path.{_≡_}
-use mathlib.Core.Bool.{cond}
-use mathlib.Core.List.{List}
-use Prim.Native.Nat.{ℕ}
-use lib.Dec.{eqb}
-use Rattle.forest.specs.declared.Forest.{Forest}
-use Rattle.schedules.specs.declared.Kind.{Kind}
-use Rattle.schedules.specs.declared.Place.{Place}
-use Rattle.schedules.specs.Columns.{Column, listed}
-use Rattle.schedules.specs.Schedules.{schedule4, schedule6, columnFour, columnSix, placeFour, placeSix}
+use Rattle.laws.proofs.{_≡_, cond, List, ℕ, eqb}
+use Rattle.forest.specs.{Forest}
+use Rattle.schedules.specs.{Kind, Place, Column, listed, schedule4, schedule6, columnFour, columnSix, placeFour, placeSix}
 use Rattle.schedules.proofs.Parts.{Holds, four-holds, six-holds}
-use Rattle.table_parts.specs.Parts.{lengthOf}
-use Rattle.table_lent.specs.Lent.{ownColumn}
-use Rattle.rates.specs.Rates.{ownNumber, atPlace, consulted}
+use Rattle.table_parts.specs.{lengthOf}
+use Rattle.table_lent.specs.{ownColumn}
+use Rattle.rates.specs.{ownNumber, atPlace, consulted}
 
 held-column : (cells : List ℕ) (p : Place) (column : Column) → Holds cells p column → atPlace cells p ≡ column
 held-column cells p column h = λ i. record { first = h .first i; cells = h .part i }

@@ -1,20 +1,11 @@
 -- The look-up by where the age lies, and the column consulted by its length.
-use Prim.Native.Nat.{ℕ, _-_, _<_, _≤_, min}
-use mathlib.Core.Path.{_≡_, refl, sym, ap}
-use mathlib.Core.Bool.{Bool, true, false, cond}
-use mathlib.Core.List.{List, []}
-use native.Mathlib.Omega.{arith}
-use borrow.Author.Tests.{lt-ltb, le-ltb, eq-eqb, ne-eqb}
-use lib.Dec.{eqb, lit≤}
-use lib.ListN.{length, getD, List·getD-eq-default}
-use Rattle.forest.specs.declared.Forest.{Forest}
-use Rattle.forest.specs.declared.Forest.the-variants.{Bare, Radiata, DouglasFir, ExoticSoftwoods, ExoticHardwoods, Indigenous}
-use Rattle.schedules.specs.declared.Kind.{Kind}
-use Rattle.schedules.specs.Columns.{listed}
-use Rattle.schedules.specs.Schedules.{placeSix}
-use Rattle.table_parts.specs.Parts.{lengthOf}
-use Rattle.table_lent.specs.Lent.{ownColumn}
-use Rattle.rates.specs.Rates.{ownStock, ownNumber, atPlace, consulted, firstAge, cellAt}
+use Rattle.laws.proofs.{ℕ, _-_, _<_, _≤_, min, _≡_, refl, sym, ap, Bool, true, false, cond, List, [], arith, lt-ltb, le-ltb, eq-eqb, ne-eqb, eqb, lit≤, length, getD}
+use lib.ListN.{List·getD-eq-default}
+use Rattle.forest.specs.{Forest}
+use Rattle.schedules.specs.{Kind, listed, placeSix}
+use Rattle.table_parts.specs.{lengthOf}
+use Rattle.table_lent.specs.{ownColumn}
+use Rattle.rates.specs.{ownStock, ownNumber, atPlace, consulted, firstAge, cellAt}
 
 module _ (first : ℕ) (cells : List ℕ) (age : ℕ) where
   pub below-first : age < first → 0 ≡ cellAt (listed first cells) age
@@ -34,12 +25,12 @@ module _ (first : ℕ) (cells : List ℕ) (age : ℕ) where
   beyond-last h i = simp (le-ltb _ _ h) (ap (λ (k : ℕ). getD cells k 0) (omega arith))
 
 pub at-most-ten : (f : Forest) → ownStock f ≤ 10
-at-most-ten Bare = lit≤ tt
-at-most-ten (Radiata r) = lit≤ tt
-at-most-ten DouglasFir = lit≤ tt
-at-most-ten ExoticSoftwoods = lit≤ tt
-at-most-ten ExoticHardwoods = lit≤ tt
-at-most-ten Indigenous = lit≤ tt
+at-most-ten Forest.Bare = lit≤ tt
+at-most-ten (Forest.Radiata r) = lit≤ tt
+at-most-ten Forest.DouglasFir = lit≤ tt
+at-most-ten Forest.ExoticSoftwoods = lit≤ tt
+at-most-ten Forest.ExoticHardwoods = lit≤ tt
+at-most-ten Forest.Indigenous = lit≤ tt
 
 module _ (own default : List ℕ) (kind : Kind) (forest : Forest) where
   pub defaults : lengthOf own (ownNumber kind forest) ≡ 0 → consulted own default kind forest ≡ atPlace default (placeSix kind forest)

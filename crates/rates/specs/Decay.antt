@@ -1,7 +1,5 @@
 -- "share is a table of eleven, 10 down to 0, at y − c, and 0 past ten years (002, T2)"
-use Prim.Native.Nat.{ℕ}
-use mathlib.Core.List.{List, [], _∷_}
-use lib.ListN.{getD}
+use Rattle.laws.specs.{ℕ, List, [], _∷_, getD}
 
 abbrev pub shares : List ℕ
 shares = 10 ∷ 9 ∷ 8 ∷ 7 ∷ 6 ∷ 5 ∷ 4 ∷ 3 ∷ 2 ∷ 1 ∷ 0 ∷ []

@@ -1,32 +1,23 @@
 -- The column consulted, and the look-up of a cell by age. `own` is the participant's table, `default` the cells of Schedule 6 as they are lent.
-use Prim.Native.Nat.{ℕ, _+_, _-_, min}
-use mathlib.Core.Bool.{cond}
-use mathlib.Core.List.{List, []}
-use lib.Dec.{eqb, ltb}
-use lib.ListN.{length, getD, take, drop}
-use Rattle.units.specs.declared.Rate.{Rate}
-use Rattle.forest.specs.declared.Forest.{Forest}
-use Rattle.forest.specs.declared.Forest.the-variants.{Bare, Radiata, DouglasFir, ExoticSoftwoods, ExoticHardwoods, Indigenous}
-use Rattle.schedules.specs.declared.Kind.{Kind}
-use Rattle.schedules.specs.declared.Kind.the-variants.{Stock, Residue}
-use Rattle.schedules.specs.declared.Place.{Place}
-use Rattle.schedules.specs.Columns.{Column, listed}
-use Rattle.schedules.specs.Schedules.{placeFour, placeSix}
-use Rattle.table_parts.specs.Parts.{columnCount, lengthOf}
-use Rattle.table_lent.specs.Lent.{ownColumn}
+use Rattle.laws.specs.{ℕ, _+_, _-_, min, cond, List, [], eqb, ltb, length, getD, take, drop}
+use Rattle.units.specs.{Rate}
+use Rattle.forest.specs.{Forest}
+use Rattle.schedules.specs.{Kind, Place, Column, listed, placeFour, placeSix}
+use Rattle.table_parts.specs.{columnCount, lengthOf}
+use Rattle.table_lent.specs.{ownColumn}
 
 -- "for stock of P, D, S, H, N, then residue in that order"; "P serves all regions"; bare land has no column
 abbrev pub ownStock : Forest → ℕ
-ownStock Bare = columnCount
-ownStock (Radiata region) = 0
-ownStock DouglasFir = 1
-ownStock ExoticSoftwoods = 2
-ownStock ExoticHardwoods = 3
-ownStock Indigenous = 4
+ownStock Forest.Bare = columnCount
+ownStock (Forest.Radiata region) = 0
+ownStock Forest.DouglasFir = 1
+ownStock Forest.ExoticSoftwoods = 2
+ownStock Forest.ExoticHardwoods = 3
+ownStock Forest.Indigenous = 4
 
 abbrev pub ownNumber : Kind → Forest → ℕ
-ownNumber Stock forest = ownStock forest
-ownNumber Residue forest = 5 + ownStock forest
+ownNumber Kind.Stock forest = ownStock forest
+ownNumber Kind.Residue forest = 5 + ownStock forest
 
 -- a schedule's column, read off its cells
 abbrev pub atPlace : List ℕ → Place → Column

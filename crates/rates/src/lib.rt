@@ -1,8 +1,7 @@
 // The column consulted, the look-up of a cell by age, and the decay of residue.
 ghost use mathlib.Core.Path.{_≡_};
-ghost use Rattle.schedules.specs.Columns.{listed};
-ghost use Rattle.rates.specs.Rates.{ownStock, ownNumber, consulted, firstAge, cellAt, rateSix, rateFour};
-ghost use Rattle.rates.specs.Decay.{shareAfter};
+ghost use Rattle.schedules.specs.{listed};
+ghost use Rattle.rates.specs.{ownStock, ownNumber, consulted, firstAge, cellAt, rateSix, rateFour, shareAfter};
 use forest::Forest;
 use schedules::Kind;
 use units::Rate;

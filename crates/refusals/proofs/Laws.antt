@@ -1,42 +1,66 @@
 -- What a clear verdict says: it was clear before the last case, and that case did not apply; so none of a table applies.
-use mathlib.Core.Bool.{Bool, true, false}
-use mathlib.Core.Path.{_≡_, refl}
-use mathlib.Core.List.{List, [], _∷_, _++_}
-use Rattle.refusals.specs.declared.Refusal.{Refusal}
-use Rattle.refusals.specs.declared.Verdict.{Verdict}
-use Rattle.refusals.specs.declared.Verdict.the-variants.{Clear, Turned}
-use Rattle.refusals.specs.Refusals.{Case, weighed, weighAll, smallest}
+use Rattle.laws.proofs.{ℕ, zero, suc, _<_, Bool, true, false, _≡_, refl, List, [], _∷_, getD, lit≤}
+use Rattle.refusals.specs.{Refusal, Verdict, numberOf, Case, _⇒_, weighed, weighAll, smallest}
 
-pub clear-before : (v : Verdict) (b : Bool) (r : Refusal) → weighed v b r ≡ Clear → v ≡ Clear
+pub clear-before : (v : Verdict) (b : Bool) (r : Refusal) → weighed v b r ≡ Verdict.Accepted → v ≡ Verdict.Accepted
 unfolding weighed
-clear-before (Turned s) b r e = e
-clear-before Clear b r e = refl
+clear-before (Verdict.Refused s) b r e = e
+clear-before Verdict.Accepted b r e = refl
 
-pub clear-last : (v : Verdict) (b : Bool) (r : Refusal) → weighed v b r ≡ Clear → b ≡ false
+pub clear-last : (v : Verdict) (b : Bool) (r : Refusal) → weighed v b r ≡ Verdict.Accepted → b ≡ false
 unfolding weighed
-clear-last (Turned s) true r e = cc
-clear-last (Turned s) false r e = refl
-clear-last Clear true r e = cc
-clear-last Clear false r e = refl
+clear-last (Verdict.Refused s) true r e = cc
+clear-last (Verdict.Refused s) false r e = refl
+clear-last Verdict.Accepted true r e = cc
+clear-last Verdict.Accepted false r e = refl
 
--- a clear verdict over a table of cases: none of them applies
-unfoldable pub NoneApplies : List Case → Type 0
-NoneApplies [] = Unit
-NoneApplies (c ∷ cs) = (c .applies ≡ false) × NoneApplies cs
+-- ---- a clear verdict over a table of cases: none of them applies
 
-pub clear-throughout : (v : Verdict) (cs : List Case) → weighAll v cs ≡ Clear → (v ≡ Clear) × NoneApplies cs
-unfolding weighAll NoneApplies
-clear-throughout v [] e = (e, tt)
-clear-throughout v (c ∷ cs) e =
-    let rest = clear-throughout (weighed v (c .applies) (c .refusal)) cs e in
-    (clear-before v (c .applies) (c .refusal) (rest .0), (clear-last v (c .applies) (c .refusal) (rest .0), rest .1))
+-- the case at each place of a table does not apply
+abbrev pub RuledOut : List Case → Type 0
+RuledOut cs = (i : ℕ) → getD cs i (false ⇒ Refusal.Form) .applies ≡ false
 
-pub none-applies : (cs : List Case) → smallest cs ≡ Clear → NoneApplies cs
+clear-throughout : (v : Verdict) (cs : List Case) → weighAll v cs ≡ Verdict.Accepted → (v ≡ Verdict.Accepted) × RuledOut cs
+unfolding weighAll
+clear-throughout v [] e = (e, λ i. refl)
+clear-throughout v (c ∷ cs) e = both (clear-throughout (weighed v (c .applies) (c .refusal)) cs e)
+  where
+    both : (weighed v (c .applies) (c .refusal) ≡ Verdict.Accepted) × RuledOut cs → (v ≡ Verdict.Accepted) × RuledOut (c ∷ cs)
+    both rest = (clear-before v (c .applies) (c .refusal) (rest .0), out)
+      where
+        out : RuledOut (c ∷ cs)
+        out zero = clear-last v (c .applies) (c .refusal) (rest .0)
+        out (suc i) = rest .1 i
+
+pub ruled-out : (cs : List Case) → smallest cs ≡ Verdict.Accepted → RuledOut cs
 unfolding smallest
-none-applies cs e = clear-throughout Clear cs e .1
+ruled-out cs e = clear-throughout Verdict.Accepted cs e .1
 
--- of a table in two parts neither applies
-pub none-parts : (cs ds : List Case) → NoneApplies (cs ++ ds) → NoneApplies cs × NoneApplies ds
-unfolding NoneApplies
-none-parts [] ds n = (tt, n)
-none-parts (c ∷ cs) ds n = let rest = none-parts cs ds (n .1) in ((n .0, rest .0), rest .1)
+-- ---- the numbers
+
+-- every refusal's number is 1 to 99
+pub number-range : (r : Refusal) → (0 < numberOf r) × (numberOf r < 100)
+number-range Refusal.Form = (lit≤ tt, lit≤ tt)
+number-range Refusal.AreaOrSubNumber = (lit≤ tt, lit≤ tt)
+number-range Refusal.ForestType = (lit≤ tt, lit≤ tt)
+number-range Refusal.Hectares = (lit≤ tt, lit≤ tt)
+number-range Refusal.YearRange = (lit≤ tt, lit≤ tt)
+number-range Refusal.TableColumn = (lit≤ tt, lit≤ tt)
+number-range Refusal.TreeList = (lit≤ tt, lit≤ tt)
+number-range Refusal.OutputShort = (lit≤ tt, lit≤ tt)
+number-range Refusal.ParcelList = (lit≤ tt, lit≤ tt)
+number-range Refusal.NoTreesOfNineYears = (lit≤ tt, lit≤ tt)
+number-range Refusal.CarriedStatement = (lit≤ tt, lit≤ tt)
+number-range Refusal.AreaUsed = (lit≤ tt, lit≤ tt)
+number-range Refusal.AreaUnknown = (lit≤ tt, lit≤ tt)
+number-range Refusal.AreaWithdrawn = (lit≤ tt, lit≤ tt)
+number-range Refusal.AreasFull = (lit≤ tt, lit≤ tt)
+number-range Refusal.SubUsed = (lit≤ tt, lit≤ tt)
+number-range Refusal.SubsFull = (lit≤ tt, lit≤ tt)
+number-range Refusal.AreaFiled = (lit≤ tt, lit≤ tt)
+number-range Refusal.SubUnknown = (lit≤ tt, lit≤ tt)
+number-range Refusal.ClearingBareLand = (lit≤ tt, lit≤ tt)
+number-range Refusal.PlantingUnderTrees = (lit≤ tt, lit≤ tt)
+number-range Refusal.YearBefore = (lit≤ tt, lit≤ tt)
+number-range Refusal.PlantedAfterOpening = (lit≤ tt, lit≤ tt)
+number-range Refusal.TableAfterArea = (lit≤ tt, lit≤ tt)

@@ -1,15 +1,7 @@
 -- In a table of cases whose numbers do not fall, the first case that applies has the smallest number of all that apply:
 -- what stands before it does not apply, and what stands behind it has no smaller number.
-use Prim.Native.Nat.{ℕ, _≤_}
-use mathlib.Core.Bool.{Bool, true, false, _&&_}
-use mathlib.Core.Path.{_≡_, refl, sym, ap, _∙_}
-use mathlib.Core.List.{List, [], _∷_}
-use native.Mathlib.Omega.{arith}
-use borrow.Author.Tests.{leb-true}
-use lib.Dec.{leb}
-use Rattle.refusals.specs.declared.Refusal.{Refusal}
-use Rattle.refusals.specs.declared.Verdict.the-variants.{Clear, Turned}
-use Rattle.refusals.specs.Refusals.{numberOf, Case, weighed, weighAll, smallest}
+use Rattle.laws.proofs.{ℕ, _≤_, Bool, true, false, _&&_, _≡_, refl, sym, ap, _∙_, List, [], _∷_, arith, leb-true, leb}
+use Rattle.refusals.specs.{Refusal, numberOf, Case, weighed, weighAll, smallest, Verdict}
 
 -- no case that applies has a number below n
 unfoldable pub Least : ℕ → List Case → Type 0
@@ -21,7 +13,7 @@ unfoldable pub Rising : ℕ → List Case → Type 0
 Rising n [] = Unit
 Rising n (c ∷ cs) = (n ≤ numberOf (c .refusal)) × Rising (numberOf (c .refusal)) cs
 
-pub turned-stands : (r : Refusal) (cs : List Case) → weighAll (Turned r) cs ≡ Turned r
+pub turned-stands : (r : Refusal) (cs : List Case) → weighAll (Verdict.Refused r) cs ≡ Verdict.Refused r
 unfolding weighAll weighed
 turned-stands r [] = refl
 turned-stands r (c ∷ cs) = turned-stands r cs
@@ -32,12 +24,12 @@ rising-least m n [] h p = tt
 rising-least m n (c ∷ cs) h p =
     let q = p .0 in ((λ a. omega arith), rising-least m (numberOf (c .refusal)) cs (omega arith) (p .1))
 
-pub first-is-smallest : (n : ℕ) (cs : List Case) (r : Refusal) → Rising n cs → smallest cs ≡ Turned r → Least (numberOf r) cs
+pub first-is-smallest : (n : ℕ) (cs : List Case) (r : Refusal) → Rising n cs → smallest cs ≡ Verdict.Refused r → Least (numberOf r) cs
 unfolding smallest weighAll weighed Least Rising
 first-is-smallest n [] r p e = tt
 first-is-smallest n (c ∷ cs) r p e = go (c .applies) refl e (first-is-smallest (numberOf (c .refusal)) cs r (p .1))
   where
-    go : (x : Bool) → c .applies ≡ x → weighAll (weighed Clear x (c .refusal)) cs ≡ Turned r → (weighAll Clear cs ≡ Turned r → Least (numberOf r) cs)
+    go : (x : Bool) → c .applies ≡ x → weighAll (weighed Verdict.Accepted x (c .refusal)) cs ≡ Verdict.Refused r → (weighAll Verdict.Accepted cs ≡ Verdict.Refused r → Least (numberOf r) cs)
         → (c .applies ≡ true → numberOf r ≤ numberOf (c .refusal)) × Least (numberOf r) cs
     go true a e rest =
         let s : c .refusal ≡ r = cc (turned-stands (c .refusal) cs) in

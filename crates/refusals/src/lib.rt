@@ -1,6 +1,6 @@
 // Refusals under document 01's numbers, the smallest that applies, and what a write into a lent buffer answers.
 ghost use mathlib.Core.Path.{_≡_};
-ghost use Rattle.refusals.specs.Refusals.{numberOf, weighed};
+ghost use Rattle.refusals.specs.{numberOf, weighed};
 
 pub enum Refusal {
     Form,
@@ -31,8 +31,8 @@ pub enum Refusal {
 
 // Nothing has applied so far, or a refusal has.
 pub enum Verdict {
-    Clear,
-    Turned(Refusal),
+    Accepted,
+    Refused(Refusal),
 }
 
 // How many bytes or numbers were written, or why none were.
@@ -77,12 +77,12 @@ pub fn weigh(so_far: Verdict, applies: bool, refusal: Refusal) -> Verdict
     ensures { λ v. ⌜ v ≡ weighed «so_far» applies refusal ⌝ }
 {
     match so_far {
-        Verdict::Turned(first) => Verdict::Turned(first),
-        Verdict::Clear => {
+        Verdict::Refused(first) => Verdict::Refused(first),
+        Verdict::Accepted => {
             if applies {
-                return Verdict::Turned(refusal);
+                return Verdict::Refused(refusal);
             }
-            Verdict::Clear
+            Verdict::Accepted
         }
     }
 }

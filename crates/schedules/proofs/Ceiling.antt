@@ -1,14 +1,9 @@
 -- "The default cells are at most 30,000 tenths each": one test over both schedules, which antt computes; each schedule is a part of them.
-use mathlib.Core.Path.{_≡_, refl}
-use mathlib.Core.Bool.{true}
-use mathlib.Core.List.{_++_}
-use lib.ListN.{length}
-use lib.Seq.{take-append-seam, drop-append-seam}
-use Rattle.laws.specs.Lists.{eachAtMost}
+use Rattle.laws.proofs.{_≡_, refl, true, _++_, length, take-append-seam}
+use lib.Seq.{drop-append-seam}
+use Rattle.laws.specs.{eachAtMost}
 use Rattle.laws.proofs.Lists.{ceiling-take, ceiling-drop}
-use Rattle.schedules.specs.Columns.{joined}
-use Rattle.schedules.specs.Cells.{stock4, stock6, residue6}
-use Rattle.schedules.specs.Schedules.{cellCeiling, schedule4, schedule6}
+use Rattle.schedules.specs.{joined, stock4, stock6, residue6, cellCeiling, schedule4, schedule6}
 
 pub default-ceiling : eachAtMost cellCeiling (schedule4 ++ schedule6) ≡ true
 unfolding eachAtMost joined schedule4 schedule6 stock4 stock6 residue6

@@ -1,17 +1,8 @@
 -- The part of a schedule's cells at a column's place is the column: the cells before it are those of the columns before it.
-use Prim.Native.Nat.{ℕ, zero, suc, _+_}
-use mathlib.Core.Path.{_≡_, refl, ap, _∙_}
-use mathlib.Core.List.{List, [], _∷_, _++_, append-assoc, append-nil}
-use lib.ListN.{length, getD, take, drop, length-append}
-use lib.Seq.{take-append-seam, drop-at}
-use Rattle.forest.specs.declared.Forest.{Forest}
-use Rattle.forest.specs.Order.{orderOf}
-use Rattle.schedules.specs.declared.Kind.{Kind}
-use Rattle.schedules.specs.declared.Kind.the-variants.{Stock, Residue}
-use Rattle.schedules.specs.declared.Place.{Place}
-use Rattle.schedules.specs.Columns.{Column, noColumn, joined, noPlace, placesFrom}
-use Rattle.schedules.specs.Cells.{stock4, stock6, residue6}
-use Rattle.schedules.specs.Schedules.{schedule4, schedule6, columnFour, columnSix, placeFour, placeSix}
+use Rattle.laws.proofs.{ℕ, zero, suc, _+_, _≡_, refl, ap, _∙_, List, [], _∷_, _++_, append-assoc, append-nil, length, getD, take, drop, length-append, take-append-seam}
+use lib.Seq.{drop-at}
+use Rattle.forest.specs.{Forest, orderOf}
+use Rattle.schedules.specs.{Kind, Place, Column, noColumn, joined, noPlace, placesFrom, stock4, stock6, residue6, schedule4, schedule6, columnFour, columnSix, placeFour, placeSix}
 
 -- a place holds a column: its cells stand there, and the first ages agree
 pub record Holds (cells : List ℕ) (p : Place) (c : Column) : Type 0 where
@@ -39,8 +30,8 @@ type-holds before after cs at (suc k) e = each-holds before after cs at k e
 
 pub six-holds : (kind : Kind) (forest : Forest) → Holds schedule6 (placeSix kind forest) (columnSix kind forest)
 unfolding schedule6 placeSix columnSix
-six-holds Stock forest = type-holds [] (joined residue6) stock6 0 (orderOf forest) refl
-six-holds Residue forest = rw append-nil at (type-holds (joined stock6) [] residue6 (length (joined stock6)) (orderOf forest) refl)
+six-holds Kind.Stock forest = type-holds [] (joined residue6) stock6 0 (orderOf forest) refl
+six-holds Kind.Residue forest = rw append-nil at (type-holds (joined stock6) [] residue6 (length (joined stock6)) (orderOf forest) refl)
 
 pub four-holds : (forest : Forest) → Holds schedule4 (placeFour forest) (columnFour forest)
 unfolding schedule4 placeFour columnFour

@@ -1,6 +1,6 @@
 -- tools/schedules.py made this file from data/schedules-2017.csv.
 -- The columns of Schedules 4 and 6 (002, Appendix 2): the first listed age, then a cell for each age in tenths of a tonne per hectare.
-use mathlib.Core.List.{List, [], _∷_}
+use Rattle.laws.specs.{List, [], _∷_}
 use Rattle.schedules.specs.Columns.{Column, listed}
 
 -- Schedule 4, pre-1990 forest land: carbon stock

@@ -1,7 +1,5 @@
 -- Columns of cells by age, and their places where they are joined.
-use Prim.Native.Nat.{ℕ, _+_}
-use mathlib.Core.List.{List, [], _∷_, _++_}
-use lib.ListN.{length}
+use Rattle.laws.specs.{ℕ, _+_, List, [], _∷_, _++_, length}
 use Rattle.schedules.specs.declared.Place.{Place}
 
 -- the first listed age, and the cells from that age on

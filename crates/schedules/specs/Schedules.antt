@@ -1,11 +1,7 @@
 -- "Default tables: Schedule 6 (post-1989: stock and residue columns) and Schedule 4 (pre-1990) of Appendix 2."
-use Prim.Native.Nat.{ℕ}
-use mathlib.Core.List.{List, _∷_, _++_}
-use lib.ListN.{length, getD}
-use Rattle.forest.specs.declared.Forest.{Forest}
-use Rattle.forest.specs.Order.{orderOf}
+use Rattle.laws.specs.{ℕ, List, _∷_, _++_, length, getD}
+use Rattle.forest.specs.{Forest, orderOf}
 use Rattle.schedules.specs.declared.Kind.{Kind}
-use Rattle.schedules.specs.declared.Kind.the-variants.{Stock, Residue}
 use Rattle.schedules.specs.declared.Place.{Place}
 use Rattle.schedules.specs.Columns.{Column, noColumn, joined, noPlace, placesFrom}
 use Rattle.schedules.specs.Cells.{stock4, stock6, residue6}
@@ -29,8 +25,8 @@ unfoldable pub columnFour : Forest → Column
 columnFour forest = columnIn stock4 forest
 
 unfoldable pub columnSix : Kind → Forest → Column
-columnSix Stock forest = columnIn stock6 forest
-columnSix Residue forest = columnIn residue6 forest
+columnSix Kind.Stock forest = columnIn stock6 forest
+columnSix Kind.Residue forest = columnIn residue6 forest
 
 -- where that column stands in the schedule's cells
 abbrev pub placeIn : List Place → Forest → Place
@@ -40,5 +36,5 @@ unfoldable pub placeFour : Forest → Place
 placeFour forest = placeIn (placesFrom 0 stock4) forest
 
 unfoldable pub placeSix : Kind → Forest → Place
-placeSix Stock forest = placeIn (placesFrom 0 stock6) forest
-placeSix Residue forest = placeIn (placesFrom (length (joined stock6)) residue6) forest
+placeSix Kind.Stock forest = placeIn (placesFrom 0 stock6) forest
+placeSix Kind.Residue forest = placeIn (placesFrom (length (joined stock6)) residue6) forest

@@ -1,8 +1,7 @@
 // tools/schedules.py made this file from data/schedules-2017.csv.
 // The cells of Schedules 4 and 6 in tenths of a tonne per hectare, column after column, and the columns' places.
 ghost use mathlib.Core.Path.{_≡_};
-ghost use Rattle.schedules.specs.declared.Kind.the-variants.{Stock, Residue};
-ghost use Rattle.schedules.specs.Schedules.{placeSix};
+ghost use Rattle.schedules.specs.{Kind, placeSix};
 use super::Place;
 use forest::Forest;
 use forest::Region;
@@ -1935,7 +1934,7 @@ pub const PLACES_FOUR: [Place; 14] = [
 ];
 
 pub fn stock_place(forest: Forest) -> Place
-    ensures { λ r. ⌜ r ≡ placeSix Stock forest ⌝ }
+    ensures { λ r. ⌜ r ≡ placeSix Kind.Stock forest ⌝ }
 {
     match forest {
         Forest::Bare => Place {
@@ -2014,7 +2013,7 @@ pub fn stock_place(forest: Forest) -> Place
 }
 
 pub fn residue_place(forest: Forest) -> Place
-    ensures { λ r. ⌜ r ≡ placeSix Residue forest ⌝ }
+    ensures { λ r. ⌜ r ≡ placeSix Kind.Residue forest ⌝ }
 {
     match forest {
         Forest::Bare => Place {

@@ -1,6 +1,6 @@
 // The default tables: Schedules 4 and 6 of the guide's Appendix 2, and the place of each column.
 ghost use mathlib.Core.Path.{_≡_};
-ghost use Rattle.schedules.specs.Schedules.{schedule4, schedule6, placeFour, placeSix};
+ghost use Rattle.schedules.specs.{schedule4, schedule6, placeFour, placeSix};
 use forest::Forest;
 
 mod cells;

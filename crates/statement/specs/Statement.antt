@@ -1,18 +1,9 @@
 -- "A reader accepts it exactly when fields keep the ranges above ..; and the bytes are the writer's."
-use Prim.Native.Nat.{ℕ}
-use mathlib.Core.Bool.{Bool, not, _&&_}
-use mathlib.Core.List.{List, [], _∷_}
-use lib.Dec.{eqb, ltb}
-use lib.ListN.{length}
-use Rattle.refusals.specs.declared.Refusal.the-variants.{CarriedStatement}
-use Rattle.refusals.specs.declared.Verdict.{Verdict}
-use Rattle.refusals.specs.declared.Verdict.the-variants.{Clear, Turned}
-use Rattle.refusals.specs.Refusals.{_⇒_, smallest}
-use Rattle.holding.specs.declared.Holding.{Holding}
-use Rattle.holding.specs.Holding.{emptyHolding}
-use Rattle.statement_carried.specs.Carried.{carried}
-use Rattle.statement_parse.specs.declared.HoldingRead.{HoldingRead}
-use Rattle.statement_parse.specs.Reading.{holdingAt}
+use Rattle.laws.specs.{ℕ, Bool, not, _&&_, List, [], _∷_, eqb, ltb, length}
+use Rattle.refusals.specs.{Verdict, _⇒_, smallest, Refusal}
+use Rattle.holding.specs.{Holding, emptyHolding}
+use Rattle.statement_carried.specs.{carried}
+use Rattle.statement_parse.specs.{HoldingRead, holdingAt}
 use Rattle.statement.specs.declared.Read.{Read}
 
 -- the bytes were read to their end, and the holding is one that a statement carries; that "the bytes are the writer's" then is
@@ -21,11 +12,11 @@ abbrev pub accepts : List ℕ → HoldingRead → Bool
 accepts s read = ltb 0 (read .next) && eqb (read .next) (length s) && carried (read .holding)
 
 unfoldable pub acceptable : List ℕ → HoldingRead → Verdict
-acceptable s read = smallest (not (accepts s read) ⇒ CarriedStatement ∷ [])
+acceptable s read = smallest (not (accepts s read) ⇒ Refusal.CarriedStatement ∷ [])
 
 abbrev pub readIf : Verdict → Holding → Read
-readIf Clear holding = record { verdict = Clear; holding = holding }
-readIf (Turned refusal) holding = record { verdict = Turned refusal; holding = emptyHolding }
+readIf Verdict.Accepted holding = record { verdict = Verdict.Accepted; holding = holding }
+readIf (Verdict.Refused refusal) holding = record { verdict = Verdict.Refused refusal; holding = emptyHolding }
 
 -- the holding that a statement carries, or "11 statement"
 unfoldable pub readOf : List ℕ → Read

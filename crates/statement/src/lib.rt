@@ -1,6 +1,6 @@
 // A carried statement: a holding read from lent bytes, or refused under 11.
 ghost use mathlib.Core.Path.{_≡_};
-ghost use Rattle.statement.specs.Statement.{readOf};
+ghost use Rattle.statement.specs.{readOf};
 use holding::Holding;
 use refusals::Refusal;
 use refusals::Verdict;
@@ -20,13 +20,13 @@ pub fn read_from(bytes: &[u8]) -> Read
     let kept = statement_judge::holding(holding);
     if (0 < next) & (next == bytes.len()) & kept {
         return Read {
-            verdict: Verdict::Clear,
+            verdict: Verdict::Accepted,
             holding,
         };
     }
     let empty = holding::empty_holding();
     Read {
-        verdict: Verdict::Turned(Refusal::CarriedStatement),
+        verdict: Verdict::Refused(Refusal::CarriedStatement),
         holding: empty,
     }
 }

@@ -1,18 +1,16 @@
 -- The bounds on an area's fields that a step relies on, read off the tests that its fields pass.
-use Prim.Native.Nat.{_+_, _*_, _≤_}
-use mathlib.Core.Bool.{true}
-use mathlib.Core.Path.{_≡_}
-use borrow.Author.Tests.{leb-true}
+use Rattle.laws.proofs.{_+_, _*_, _≤_, true, _≡_, leb-true}
 use Rattle.laws.proofs.Tests.{AllTrue, all-true}
-use Rattle.holding.specs.declared.Area.{Area}
-use Rattle.statement_carried.specs.Carried.{yearsCarried, amountsCarried, fieldsCarried}
+use Rattle.ranges.specs.{lastYear}
+use Rattle.holding.specs.{Area, mostSubs}
+use Rattle.statement_carried.specs.{stockForSub, receivedForReturn, yearsCarried, amountsCarried, fieldsCarried}
 
 pub record Bounds (area : Area) : Type 0 where
-  pub count : area .count ≤ 16
-  pub open-year : area .«open_year» ≤ 2200
+  pub count : area .count ≤ mostSubs
+  pub open-year : area .«open_year» ≤ lastYear + 1
   pub returns : area .returns + area .opening ≤ area .«open_year»
-  pub stock : area .stock .0 ≤ 60000000000 * area .count
-  pub received : area .received ≤ 1000000000 * area .returns
+  pub stock : area .stock .0 ≤ stockForSub * area .count
+  pub received : area .received ≤ receivedForReturn * area .returns
   pub surrendered : area .surrendered ≤ area .received
 
 pub bounds : (area : Area) → fieldsCarried area ≡ true → Bounds area

@@ -1,16 +1,7 @@
 -- What a holding keeps so that a statement carries it: "A reader accepts it exactly when .." of document 01.
-use Prim.Native.Nat.{ℕ, _+_, _*_, max}
-use mathlib.Core.Bool.{Bool, not, cond, _||_, Bool·beq}
-use mathlib.Core.List.{[], _∷_}
-use lib.Dec.{eqb, leb}
-use Rattle.laws.specs.Elements.{every, distinct}
-use Rattle.laws.specs.Tests.{allOf}
-use Rattle.ranges.specs.Ranges.{lastYear, isBare, isArea, isSub, isYear, isLand, isPlanted}
-use Rattle.holding.specs.declared.Residue.{Residue}
-use Rattle.holding.specs.declared.Sub.{Sub}
-use Rattle.holding.specs.declared.Area.{Area}
-use Rattle.holding.specs.declared.Holding.{Holding}
-use Rattle.holding.specs.Holding.{mostAreas, mostSubs, areasOf, subsOf}
+use Rattle.laws.specs.{ℕ, _+_, _*_, max, Bool, not, cond, _||_, Bool·beq, [], _∷_, eqb, leb, every, distinct, allOf}
+use Rattle.ranges.specs.{lastYear, isBare, isArea, isSub, isYear, isLand, isPlanted}
+use Rattle.holding.specs.{Residue, Sub, Area, Holding, mostAreas, mostSubs, areasOf, subsOf}
 
 -- "stock is at most 6×10^10 for each sub"
 abbrev pub stockForSub : ℕ
@@ -19,6 +10,10 @@ stockForSub = 60000000000
 -- "received is at most 10^9 for each return"
 abbrev pub receivedForReturn : ℕ
 receivedForReturn = 1000000000
+
+-- "its age is at most 299"
+abbrev pub oldestResidue : ℕ
+oldestResidue = 299
 
 -- "(latest year 0 or 2008 to 2199)"; "open year is at most 2200, not before opening, and equals it just when returns are 0;
 -- returns are at most open year less opening"
@@ -52,7 +47,7 @@ unfoldable pub residueCarried : Area → Residue → Bool
 residueCarried area residue =
     cond (isBare (residue .forest))
     (allOf (eqb (residue .age) 0 ∷ eqb (residue .year) 0 ∷ []))
-    (allOf (leb (area .opening) (residue .year) ∷ leb (residue .year) (area .latest) ∷ leb (residue .age) 299 ∷ []))
+    (allOf (leb (area .opening) (residue .year) ∷ leb (residue .year) (area .latest) ∷ leb (residue .age) oldestResidue ∷ []))
 
 -- "planted is at most the greater of opening and latest year; tenths are 10 to 100000"
 unfoldable pub subCarried : Area → Sub → Bool

@@ -1,13 +1,15 @@
 // What a holding keeps so that a statement carries it. A step tests the fields of the one area that it touches.
 ghost use mathlib.Core.Path.{_≡_};
 ghost use Prim.Native.Nat.{_≤_};
-ghost use Rattle.holding.specs.Holding.{mostSubs};
-ghost use Rattle.statement_carried.specs.Carried.{yearsCarried, amountsCarried, fieldsCarried};
+ghost use Rattle.holding.specs.{mostSubs};
+ghost use Rattle.statement_carried.specs.{yearsCarried, amountsCarried, fieldsCarried};
 use holding::Area;
+use holding::MOST_SUBS;
 
-const LAST_OPEN_YEAR: u16 = 2200;
+const LAST_OPEN_YEAR: u16 = ranges::LAST_YEAR + 1;
 
-const MOST_SUBS: usize = 16;
+// The oldest trees that were cleared, in years.
+pub const OLDEST_RESIDUE: u16 = 299;
 
 const STOCK_FOR_SUB: u64 = 60_000_000_000;
 

@@ -1,19 +1,8 @@
 -- A field: the scan for its end a byte at a time, and what it is read as by the tests on its place and its end.
-use Prim.Native.Nat.{ℕ, _+_, _-_, _≤_, _<_}
-use mathlib.Core.Path.{_≡_, sym, ap, _∙_}
-use mathlib.Core.List.{List}
-use native.Mathlib.Omega.{arith}
-use native.Mathlib.Numerals.{add-one}
-use borrow.Author.Tests.{le-leb, lt-leb, eq-eqb, ne-eqb}
-use lib.ListN.{length, take, drop, getD, drop-of-length-le}
-use lib.Seq.{drop-cons}
-use Rattle.text_number.specs.declared.Number.{Number}
-use Rattle.text_number.specs.declared.Number.the-variants.{Value}
-use Rattle.text_number.specs.Numbers.{numberIn}
-use Rattle.forest.specs.declared.Named.{Named}
-use Rattle.forest.specs.Letters.{named}
-use Rattle.statement_cursor.specs.declared.NumberField.{NumberField}
-use Rattle.statement_cursor.specs.Cursor.{widthTo, fieldOf, fieldBy, noNumber, noType, numberBefore, numberAt, typeBefore, typeAt}
+use Rattle.laws.proofs.{ℕ, _+_, _-_, _≤_, _<_, _≡_, sym, ap, _∙_, List, arith, add-one, le-leb, lt-leb, eq-eqb, ne-eqb, length, take, drop, getD, drop-of-length-le, drop-cons}
+use Rattle.text_number.specs.{Number, numberIn}
+use Rattle.forest.specs.{Named, named}
+use Rattle.statement_cursor.specs.{NumberField, widthTo, fieldOf, fieldBy, noNumber, noType, numberBefore, numberAt, typeBefore, typeAt}
 
 -- the scan, at a byte that does not end the field, at one that does, and past the last byte
 module _ (end : ℕ) (s : List ℕ) (i : ℕ) where
@@ -53,11 +42,11 @@ module _ (s : List ℕ) (at end most stop : ℕ) (number : Number) (h : at ≡ 0
   unfolding numberAt
   number-read q = ap (numberBefore most (stop + 1)) (sym q) ∙ field-read noNumber (λ next bytes. numberBefore most next (numberIn bytes)) s at end stop h e inside
 
-pub number-kept : (most next v : ℕ) → v ≤ most → _≡_ {A = NumberField} (record { value = v; next = next }) (numberBefore most next (Value v))
+pub number-kept : (most next v : ℕ) → v ≤ most → _≡_ {A = NumberField} (record { value = v; next = next }) (numberBefore most next (Number.Value v))
 unfolding numberBefore
 number-kept most next v h = simp (le-leb v most h)
 
-pub number-over : (most next v : ℕ) → most < v → noNumber ≡ numberBefore most next (Value v)
+pub number-over : (most next v : ℕ) → most < v → noNumber ≡ numberBefore most next (Number.Value v)
 unfolding numberBefore
 number-over most next v h = simp (lt-leb v most h)
 

@@ -1,12 +1,6 @@
 -- The letter and the comma that start a line: each test that fails gives the place 0, and where all hold the place after them is found.
-use Prim.Native.Nat.{ℕ, _+_, _≤_, _<_}
-use mathlib.Core.Path.{_≡_, refl}
-use mathlib.Core.Bool.{Bool, true, false, cond, _&&_}
-use mathlib.Core.List.{List}
-use borrow.Author.Tests.{lt-ltb, le-ltb, eq-eqb, ne-eqb}
-use lib.Dec.{ltb, eqb}
-use lib.ListN.{length, getD}
-use Rattle.statement_cursor.specs.Cursor.{startAt, lineAt}
+use Rattle.laws.proofs.{ℕ, _+_, _≤_, _<_, _≡_, refl, Bool, true, false, cond, _&&_, List, lt-ltb, le-ltb, eq-eqb, ne-eqb, ltb, eqb, length, getD}
+use Rattle.statement_cursor.specs.{startAt, lineAt}
 
 module _ (s : List ℕ) (at letter : ℕ) where
   pub start-short : length s ≤ at + 1 → 0 ≡ startAt s at letter

@@ -1,17 +1,8 @@
 -- What stands at a place of a list of bytes, and the place after it. The place 0 is nowhere. The reader's own: `accepts-just-when` (trips)
 -- says what it comes to by `carried` and `statementOf` alone.
-use Prim.Native.Nat.{ℕ, zero, suc, _+_}
-use mathlib.Core.Bool.{cond, _&&_}
-use mathlib.Core.List.{List, [], _∷_}
-use lib.Dec.{eqb, leb, ltb}
-use lib.ListN.{length, take, drop, getD}
-use Rattle.text_number.specs.declared.Number.{Number}
-use Rattle.text_number.specs.declared.Number.the-variants.{Value, Large, Malformed}
-use Rattle.text_number.specs.Numbers.{numberIn}
-use Rattle.forest.specs.declared.Forest.the-variants.{Bare}
-use Rattle.forest.specs.declared.Named.{Named}
-use Rattle.forest.specs.declared.Named.the-variants.{Listed, Unlisted}
-use Rattle.forest.specs.Letters.{named}
+use Rattle.laws.specs.{ℕ, zero, suc, _+_, cond, _&&_, List, [], _∷_, eqb, leb, ltb, length, take, drop, getD}
+use Rattle.text_number.specs.{Number, numberIn}
+use Rattle.forest.specs.{Named, named, Forest}
 use Rattle.statement_cursor.specs.declared.NumberField.{NumberField}
 use Rattle.statement_cursor.specs.declared.TypeField.{TypeField}
 
@@ -31,20 +22,20 @@ abbrev pub noNumber : NumberField
 noNumber = record { value = 0; next = 0 }
 
 abbrev pub noType : TypeField
-noType = record { forest = Bare; next = 0 }
+noType = record { forest = Forest.Bare; next = 0 }
 
 -- a number of at most `most`
 unfoldable pub numberBefore : ℕ → ℕ → Number → NumberField
-numberBefore most next (Value v) = cond (leb v most) (record { value = v; next = next }) noNumber
-numberBefore most next Large = noNumber
-numberBefore most next Malformed = noNumber
+numberBefore most next (Number.Value v) = cond (leb v most) (record { value = v; next = next }) noNumber
+numberBefore most next Number.Large = noNumber
+numberBefore most next Number.Malformed = noNumber
 
 unfoldable pub numberAt : List ℕ → ℕ → ℕ → ℕ → NumberField
 numberAt s at end most = fieldBy noNumber (λ next bytes. numberBefore most next (numberIn bytes)) s at end
 
 unfoldable pub typeBefore : ℕ → Named → TypeField
-typeBefore next (Listed forest) = record { forest = forest; next = next }
-typeBefore next Unlisted = noType
+typeBefore next (Named.Listed forest) = record { forest = forest; next = next }
+typeBefore next Named.Unlisted = noType
 
 unfoldable pub typeAt : List ℕ → ℕ → ℕ → TypeField
 typeAt s at end = fieldBy noType (λ next bytes. typeBefore next (named bytes)) s at end

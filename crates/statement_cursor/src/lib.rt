@@ -3,7 +3,7 @@
 ghost use Prim.Native.Nat.{_+_, _≤_};
 ghost use mathlib.Core.Path.{_≡_};
 ghost use lib.ListN.{drop};
-ghost use Rattle.statement_cursor.specs.Cursor.{widthTo, numberAt, typeAt, startAt, lineAt};
+ghost use Rattle.statement_cursor.specs.{widthTo, numberAt, typeAt, startAt, lineAt};
 use forest::Forest;
 use forest::Named;
 use text_number::Number;

@@ -3,12 +3,12 @@ ghost use mathlib.Core.Path.{_≡_};
 ghost use Prim.Native.Nat.{_+_};
 ghost use lib.Dec.{eqb};
 ghost use lib.ListN.{drop};
-ghost use Rattle.laws.specs.Elements.{some, distinct};
-ghost use Rattle.holding.specs.Holding.{areasOf, subsOf};
-ghost use Rattle.holding.specs.declared.Sub.{Sub};
-ghost use Rattle.holding.specs.declared.Area.{Area};
+ghost use Rattle.laws.specs.{some, distinct};
+ghost use Rattle.holding.specs.{areasOf, subsOf, Sub, Area};
 use holding::Area;
 use holding::Holding;
+use holding::MOST_AREAS;
+use holding::MOST_SUBS;
 
 // Whether a sub-area from a place on bears the number.
 fn sub_bears(area: Area, from: usize, number: u8) -> bool
@@ -17,7 +17,7 @@ fn sub_bears(area: Area, from: usize, number: u8) -> bool
     let n = area.count;
     let mut found = false;
     let mut i = from;
-    while i < 16 {
+    while i < MOST_SUBS {
         if n <= i {
             return found;
         }
@@ -33,7 +33,7 @@ pub fn subs(area: Area) -> bool
     let n = area.count;
     let mut apart = true;
     let mut i: usize = 0;
-    while i < 16 {
+    while i < MOST_SUBS {
         if n <= i {
             return apart;
         }
@@ -52,7 +52,7 @@ fn area_bears(holding: Holding, from: usize, number: u16) -> bool
     let n = holding.count;
     let mut found = false;
     let mut i = from;
-    while i < 16 {
+    while i < MOST_AREAS {
         if n <= i {
             return found;
         }
@@ -68,7 +68,7 @@ pub fn areas(holding: Holding) -> bool
     let n = holding.count;
     let mut apart = true;
     let mut i: usize = 0;
-    while i < 16 {
+    while i < MOST_AREAS {
         if n <= i {
             return apart;
         }

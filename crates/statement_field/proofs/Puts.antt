@@ -1,14 +1,10 @@
 -- Parts of a statement put one after the other are one part, and as long as they are together.
-use Prim.Native.Nat.{ℕ, suc, _+_, _^_, _≤_, _<_}
-use mathlib.Core.Path.{_≡_, refl, sym}
-use mathlib.Core.List.{List, [], _∷_, _++_, append-nil}
-use native.Mathlib.Omega.{arith}
-use lib.ListN.{length, length-append}
-use Rattle.text.specs.Writing.{Wrote, greatest}
+use Rattle.laws.proofs.{ℕ, suc, _+_, _^_, _≤_, _<_, _≡_, refl, sym, List, [], _∷_, _++_, append-nil, arith, length, length-append}
+use Rattle.text.specs.{Wrote, greatest}
 use Rattle.text.proofs.Digits.{length-digits-le}
 use Rattle.text.proofs.Writes.{wrote-then, wrote-as}
-use Rattle.statement_format.specs.Format.{numberText}
-use Rattle.statement_field.specs.Put.{Put}
+use Rattle.statement_format.specs.{numberText}
+use Rattle.statement_field.specs.{Put}
 
 module _ {l : List ℕ} {at : ℕ} {m : List ℕ} {p : ℕ} where
   pub put-then : {j k : ℕ} {xs ys o : List ℕ} {q : ℕ} → Put j l at xs m p → Put k m p ys o q → Put (j + k) l at (xs ++ ys) o q

@@ -1,13 +1,7 @@
 -- The texts of what stands in an array, its first n elements, put a text a turn: before the i-th turn those of the first i are put.
-use Prim.Native.Nat.{ℕ, _+_, _*_, _≤_, _<_}
-use mathlib.Core.Path.{_≡_, refl, sym, ap, _∙_}
-use mathlib.Core.List.{List, [], _∷_, _++_, append-assoc, append-nil}
-use native.Mathlib.Omega.{arith}
-use native.Mathlib.Numerals.{add-one}
-use lib.ListN.{length, take, getD, length-take}
-use lib.Seq.{take-suc, take-all, getD-take}
-use Rattle.statement_format.specs.Format.{texts}
-use Rattle.statement_field.specs.Put.{Put}
+use Rattle.laws.proofs.{ℕ, _+_, _*_, _≤_, _<_, _≡_, refl, sym, ap, _∙_, List, [], _∷_, _++_, append-assoc, append-nil, arith, add-one, length, take, getD, length-take, take-suc, take-all, getD-take}
+use Rattle.statement_format.specs.{texts}
+use Rattle.statement_field.specs.{Put}
 use Rattle.statement_field.proofs.Puts.{put-then, put-as, put-within}
 
 texts-append : {A : Type 0} (f : A → List ℕ) (xs ys : List A) → texts f (xs ++ ys) ≡ texts f xs ++ texts f ys

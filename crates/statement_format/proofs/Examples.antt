@@ -1,13 +1,9 @@
 -- The bytes of two statements, computed: the empty holding's, and one of an area with a sub-area that was cleared and planted again.
-use mathlib.Core.Bool.{true}
-use mathlib.Core.Path.{_≡_, refl}
-use mathlib.Core.List.{[], _∷_}
-use Rattle.text.specs.Digits.{digitsIn, digits}
-use Rattle.forest.specs.declared.Forest.the-variants.{DouglasFir}
-use Rattle.forest.specs.Letters.{lettersOf}
-use Rattle.holding.specs.declared.Holding.{Holding}
-use Rattle.holding.specs.Holding.{emptyHolding}
-use Rattle.statement_format.specs.Format.{startText, numberText, typeText, joined, texts, residueText, subText, yearsText, amountsText, areaText, statementOf}
+use Rattle.laws.proofs.{true, _≡_, refl, [], _∷_}
+use Rattle.text.specs.{digitsIn, digits}
+use Rattle.forest.specs.{lettersOf, Forest}
+use Rattle.holding.specs.{Holding, emptyHolding}
+use Rattle.statement_format.specs.{startText, numberText, typeText, joined, texts, residueText, subText, yearsText, amountsText, areaText, statementOf}
 
 -- H,0
 pub empty-statement : statementOf emptyHolding ≡ 72 ∷ 44 ∷ 48 ∷ 10 ∷ []
@@ -33,9 +29,9 @@ planted = record {
             record {
               number = 1;
               tenths = record { 0 = 100 };
-              forest = DouglasFir;
+              forest = Forest.DouglasFir;
               planted = 2011;
-              residue = record { forest = DouglasFir; age = 3; year = 2012 };
+              residue = record { forest = Forest.DouglasFir; age = 3; year = 2012 };
             }
             ∷ [];
       }

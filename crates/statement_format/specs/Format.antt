@@ -1,16 +1,9 @@
 -- The carried statement: "Lines: H,areas. Then per area, in order of opening: A,.. ; then its S,.. , in order of adding. .. Every line ends with byte 10."
 -- A comma is byte 44; a letter is its byte.
-use Prim.Native.Nat.{ℕ}
-use mathlib.Core.Bool.{Bool, true, false}
-use mathlib.Core.List.{List, [], _∷_, _++_}
-use Rattle.text.specs.Digits.{digits}
-use Rattle.forest.specs.declared.Forest.{Forest}
-use Rattle.forest.specs.Letters.{lettersOf}
-use Rattle.holding.specs.declared.Residue.{Residue}
-use Rattle.holding.specs.declared.Sub.{Sub}
-use Rattle.holding.specs.declared.Area.{Area}
-use Rattle.holding.specs.declared.Holding.{Holding}
-use Rattle.holding.specs.Holding.{areasOf, subsOf}
+use Rattle.laws.specs.{ℕ, Bool, true, false, List, [], _∷_, _++_}
+use Rattle.text.specs.{digits}
+use Rattle.forest.specs.{Forest, lettersOf}
+use Rattle.holding.specs.{Residue, Sub, Area, Holding, areasOf, subsOf}
 
 -- the letter that starts a line, and the comma after it
 unfoldable pub startText : ℕ → List ℕ

@@ -1,17 +1,16 @@
 // Whether a statement carries a holding.
 ghost use mathlib.Core.Path.{_≡_};
 ghost use Prim.Native.Nat.{max};
-ghost use Rattle.laws.specs.Elements.{every};
-ghost use Rattle.holding.specs.Holding.{areasOf, subsOf};
-ghost use Rattle.statement_carried.specs.Carried.{residueCarried, subCarried, areaCarried, carried};
+ghost use Rattle.laws.specs.{every};
+ghost use Rattle.holding.specs.{areasOf, subsOf};
+ghost use Rattle.statement_carried.specs.{residueCarried, subCarried, areaCarried, carried};
 use holding::Area;
 use holding::Holding;
+use holding::MOST_AREAS;
+use holding::MOST_SUBS;
 use holding::Residue;
 use holding::Sub;
-
-const OLDEST_RESIDUE: u16 = 299;
-
-const MOST_AREAS: usize = 16;
+use statement_carried::OLDEST_RESIDUE;
 
 fn residue(area: Area, residue: Residue) -> bool
     ensures { λ r. ⌜ r ≡ residueCarried area residue ⌝ }
@@ -51,7 +50,7 @@ fn subs(area: Area) -> bool
     let n = area.count;
     let mut kept = true;
     let mut i: usize = 0;
-    while i < 16 {
+    while i < MOST_SUBS {
         if n <= i {
             return kept;
         }
@@ -74,7 +73,7 @@ fn areas(holding: Holding) -> bool
     let n = holding.count;
     let mut kept = true;
     let mut i: usize = 0;
-    while i < 16 {
+    while i < MOST_AREAS {
         if n <= i {
             return kept;
         }

@@ -1,10 +1,6 @@
 -- A turn of the loops that read sub-areas and areas: what is left to read, from here on, gives what all of it gives from the start.
-use Prim.Native.Nat.{ℕ, suc, _+_, _-_, _≤_, _<_}
-use mathlib.Core.Path.{_≡_}
-use mathlib.Core.List.{List}
-use native.Mathlib.Omega.{arith}
-use lib.ListN.{set}
-use Rattle.statement_parse.specs.Reading.{itemsFrom}
+use Rattle.laws.proofs.{ℕ, suc, _+_, _-_, _≤_, _<_, _≡_, List, arith, set}
+use Rattle.statement_parse.specs.{itemsFrom}
 
 module _ {A : Type 0} (item : ℕ → A) (next : ℕ → ℕ) (count i : ℕ) (l : List A) (at : ℕ) where
   pub items-more : (a : A) (after : ℕ) → i < count → a ≡ item at → after ≡ next at

@@ -1,13 +1,8 @@
 -- How a statement is read: field by field, each at the place after the one before. A number is read as far as its place in the holding has
 -- room for it; its range is judged afterwards. What is accepted so is a carried holding's bytes and no other: `accepts-just-when` (trips).
-use Prim.Native.Nat.{ℕ, zero, suc, _+_}
-use mathlib.Core.List.{List}
-use lib.Dec.{eqb}
-use lib.ListN.{set, replicate}
-use Rattle.holding.specs.declared.Sub.{Sub}
-use Rattle.holding.specs.declared.Area.{Area}
-use Rattle.holding.specs.Holding.{mostAreas, mostSubs, emptySub, emptyArea}
-use Rattle.statement_cursor.specs.Cursor.{numberAt, typeAt, startAt, lineAt}
+use Rattle.laws.specs.{ℕ, zero, suc, _+_, List, eqb, set, replicate}
+use Rattle.holding.specs.{Sub, Area, mostAreas, mostSubs, emptySub, emptyArea}
+use Rattle.statement_cursor.specs.{numberAt, typeAt, startAt, lineAt}
 use Rattle.statement_parse.specs.declared.ResidueRead.{ResidueRead}
 use Rattle.statement_parse.specs.declared.SubRead.{SubRead}
 use Rattle.statement_parse.specs.declared.SubsRead.{SubsRead}

@@ -1,13 +1,21 @@
 // Reads a statement's lines as a holding, with the place after them. What the holding must keep is judged after it is read.
 ghost use Prim.Native.Nat.{_≤_};
 ghost use mathlib.Core.Path.{_≡_};
-ghost use Rattle.statement_parse.specs.Reading.{residueAt, subLineAt, subsAt, yearsAt, amountsAt, areaLineAt, areasAt, holdingAt};
+ghost use Rattle.holding.specs.{mostAreas, mostSubs};
+ghost use Rattle.statement_parse.specs.{residueAt, subLineAt, subsAt, yearsAt, amountsAt, areaLineAt, areasAt, holdingAt};
 use holding::Area;
 use holding::Holding;
+use holding::MOST_AREAS;
+use holding::MOST_SUBS;
 use holding::Residue;
 use holding::Sub;
 use units::Kilograms;
 use units::Tenths;
+
+// The most areas and sub-areas, as they are read.
+const AREAS_READ: u64 = holding::MOST_AREAS as u64;
+
+const SUBS_READ: u64 = holding::MOST_SUBS as u64;
 
 // The greatest numbers of 8, 16 and 32 bits, and of fifteen digits.
 const MOST8: u64 = 255;
@@ -29,7 +37,7 @@ pub struct SubRead {
 }
 
 pub struct SubsRead {
-    pub subs: [Sub; 16],
+    pub subs: [Sub; MOST_SUBS],
     pub next: usize,
 }
 
@@ -56,7 +64,7 @@ pub struct AreaRead {
 }
 
 pub struct AreasRead {
-    pub areas: [Area; 16],
+    pub areas: [Area; MOST_AREAS],
     pub next: usize,
 }
 
@@ -105,10 +113,10 @@ fn read_sub(s: &[u8], at: usize) -> SubRead
 }
 
 fn read_subs(s: &[u8], at: usize, count: usize) -> SubsRead
-    requires { ⌜ count ≤ 16 ⌝ }
+    requires { ⌜ count ≤ mostSubs ⌝ }
     ensures { λ r. ⌜ r ≡ subsAt (now (s .entry)) at count ⌝ }
 {
-    let mut subs = [holding::empty_sub(); 16];
+    let mut subs = [holding::empty_sub(); MOST_SUBS];
     let mut next = at;
     let mut i: usize = 0;
     while i < count {
@@ -164,7 +172,7 @@ fn read_area(s: &[u8], at: usize) -> AreaRead
     let start = statement_cursor::line(s, at, 65);
     let years = read_years(s, start);
     let amounts = read_amounts(s, years.next);
-    let count = statement_cursor::number(s, amounts.next, 10, 16);
+    let count = statement_cursor::number(s, amounts.next, 10, SUBS_READ);
     let read = read_subs(s, count.next, count.value as usize);
     let stock = amounts.stock;
     let subs = read.subs;
@@ -187,10 +195,10 @@ fn read_area(s: &[u8], at: usize) -> AreaRead
 }
 
 fn read_areas(s: &[u8], at: usize, count: usize) -> AreasRead
-    requires { ⌜ count ≤ 16 ⌝ }
+    requires { ⌜ count ≤ mostAreas ⌝ }
     ensures { λ r. ⌜ r ≡ areasAt (now (s .entry)) at count ⌝ }
 {
-    let mut areas = [holding::empty_area(); 16];
+    let mut areas = [holding::empty_area(); MOST_AREAS];
     let mut next = at;
     let mut i: usize = 0;
     while i < count {
@@ -208,7 +216,7 @@ pub fn read_holding(s: &[u8]) -> HoldingRead
     ensures { λ r. ⌜ r ≡ holdingAt (now (s .entry)) ⌝ }
 {
     let start = statement_cursor::start(s, 0, 72);
-    let count = statement_cursor::number(s, start, 10, 16);
+    let count = statement_cursor::number(s, start, 10, AREAS_READ);
     let read = read_areas(s, count.next, count.value as usize);
     let areas = read.areas;
     HoldingRead {

@@ -1,14 +1,32 @@
 // The lines of an area's sub-areas, written into a lent buffer at any place.
-ghost use Rattle.statement_format.specs.Format.{typeText, texts, residueText, subText};
-ghost use Rattle.holding.specs.Holding.{subsOf};
-ghost use Rattle.statement_field.specs.Put.{Put};
+ghost use Rattle.statement_format.specs.{typeText, texts, residueText, subText, typeWidth, residueWidth, subWidth, subsWidth};
+ghost use Rattle.holding.specs.{subsOf};
+ghost use Rattle.statement_field.specs.{Put};
 use forest::Forest;
 use holding::Area;
+use holding::MOST_SUBS;
 use holding::Residue;
 use holding::Sub;
+use statement_field::LONG_WIDTH;
+use statement_field::SHORT_WIDTH;
+use statement_field::START_WIDTH;
+
+// What a type with its end, a residue, a sub-area's line and those of an area take at most, in bytes.
+const TYPE_WIDTH: usize = 3;
+
+const RESIDUE_WIDTH: usize = TYPE_WIDTH + 2 * SHORT_WIDTH;
+
+const SUB_WIDTH: usize = START_WIDTH
+    + SHORT_WIDTH
+    + LONG_WIDTH
+    + TYPE_WIDTH
+    + SHORT_WIDTH
+    + RESIDUE_WIDTH;
+
+pub const SUBS_WIDTH: usize = SUB_WIDTH * MOST_SUBS;
 
 fn put_type(out: &mut [u8], at: usize, forest: Forest, end: u8) -> usize
-    ensures { λ r. ⌜ Put 3 (now (out .entry)) at (typeText forest end) (now (out .exit)) r ⌝ }
+    ensures { λ r. ⌜ Put typeWidth (now (out .entry)) at (typeText forest end) (now (out .exit)) r ⌝ }
 {
     let letters = forest::write(forest);
     let len = letters.len;
@@ -18,7 +36,7 @@ fn put_type(out: &mut [u8], at: usize, forest: Forest, end: u8) -> usize
 }
 
 fn put_residue(out: &mut [u8], at: usize, residue: Residue) -> usize
-    ensures { λ r. ⌜ Put 15 (now (out .entry)) at (residueText residue) (now (out .exit)) r ⌝ }
+    ensures { λ r. ⌜ Put residueWidth (now (out .entry)) at (residueText residue) (now (out .exit)) r ⌝ }
 {
     let forest = residue.forest;
     let next = put_type(out, at, forest, 44);
@@ -27,7 +45,7 @@ fn put_residue(out: &mut [u8], at: usize, residue: Residue) -> usize
 }
 
 fn put_sub(out: &mut [u8], at: usize, sub: Sub) -> usize
-    ensures { λ r. ⌜ Put 53 (now (out .entry)) at (subText sub) (now (out .exit)) r ⌝ }
+    ensures { λ r. ⌜ Put subWidth (now (out .entry)) at (subText sub) (now (out .exit)) r ⌝ }
 {
     let tenths = sub.tenths;
     let forest = sub.forest;
@@ -42,12 +60,12 @@ fn put_sub(out: &mut [u8], at: usize, sub: Sub) -> usize
 
 // Puts the lines of an area's sub-areas, in order of adding; the answer is the place after what was put.
 pub fn put_subs(out: &mut [u8], at: usize, area: Area) -> usize
-    ensures { λ r. ⌜ Put 848 (now (out .entry)) at (texts subText (subsOf area)) (now (out .exit)) r ⌝ }
+    ensures { λ r. ⌜ Put subsWidth (now (out .entry)) at (texts subText (subsOf area)) (now (out .exit)) r ⌝ }
 {
     let n = area.count;
     let mut next = at;
     let mut i: usize = 0;
-    while i < 16 {
+    while i < MOST_SUBS {
         if n <= i {
             return next;
         }

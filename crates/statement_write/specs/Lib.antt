@@ -1,1 +1,2 @@
 pub mod Writable
+unfoldable pub use Writable.{writable}

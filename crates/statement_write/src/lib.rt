@@ -2,18 +2,28 @@
 ghost use mathlib.Core.Path.{_≡_};
 ghost use Prim.Native.Nat.{_≤_};
 ghost use lib.ListN.{length};
-ghost use Rattle.text.specs.Writing.{Wrote};
-ghost use Rattle.statement_format.specs.Format.{flag, yearsText, amountsText, areaText, statementOf};
-ghost use Rattle.statement_field.specs.Put.{Put};
-ghost use Rattle.refusals.specs.Answers.{written, bufferAfter};
-ghost use Rattle.statement_write.specs.Writable.{writable};
+ghost use Rattle.text.specs.{Wrote};
+ghost use Rattle.statement_format.specs.{flag, yearsText, amountsText, areaText, statementOf, yearsWidth, amountsWidth, areaWidth, statementWidth};
+ghost use Rattle.statement_field.specs.{Put};
+ghost use Rattle.refusals.specs.{written, bufferAfter};
+ghost use Rattle.statement_write.specs.{writable};
 use holding::Area;
 use holding::Holding;
+use holding::MOST_AREAS;
 use refusals::Refusal;
 use refusals::Written;
+use statement_field::LONG_WIDTH;
+use statement_field::SHORT_WIDTH;
+use statement_field::START_WIDTH;
+use statement_sub::SUBS_WIDTH;
+
+// What an area's lines and a statement take at most, in bytes.
+const AREA_WIDTH: usize = START_WIDTH + 5 * SHORT_WIDTH + 5 * LONG_WIDTH + SUBS_WIDTH;
+
+pub const STATEMENT_WIDTH: usize = START_WIDTH + LONG_WIDTH + AREA_WIDTH * MOST_AREAS;
 
 fn put_years(out: &mut [u8], at: usize, area: Area) -> usize
-    ensures { λ r. ⌜ Put 24 (now (out .entry)) at (yearsText area) (now (out .exit)) r ⌝ }
+    ensures { λ r. ⌜ Put yearsWidth (now (out .entry)) at (yearsText area) (now (out .exit)) r ⌝ }
 {
     let next = statement_field::put_short(out, at, area.number, 44);
     let next = statement_field::put_short(out, next, area.opening, 44);
@@ -31,7 +41,7 @@ fn as_number(withdrawn: bool) -> u64
 }
 
 fn put_amounts(out: &mut [u8], at: usize, area: Area) -> usize
-    ensures { λ r. ⌜ Put 90 (now (out .entry)) at (amountsText area) (now (out .exit)) r ⌝ }
+    ensures { λ r. ⌜ Put amountsWidth (now (out .entry)) at (amountsText area) (now (out .exit)) r ⌝ }
 {
     let stock = area.stock;
     let withdrawn = as_number(area.withdrawn);
@@ -43,7 +53,7 @@ fn put_amounts(out: &mut [u8], at: usize, area: Area) -> usize
 }
 
 fn put_area(out: &mut [u8], at: usize, area: Area) -> usize
-    ensures { λ r. ⌜ Put 985 (now (out .entry)) at (areaText area) (now (out .exit)) r ⌝ }
+    ensures { λ r. ⌜ Put areaWidth (now (out .entry)) at (areaText area) (now (out .exit)) r ⌝ }
 {
     let next = statement_field::put_start(out, at, 65);
     let next = put_years(out, next, area);
@@ -55,13 +65,13 @@ fn put_area(out: &mut [u8], at: usize, area: Area) -> usize
 // Puts the holding's statement at a place; the answer is the place after it. The holding is handed on to no other function, and so copied once.
 pub fn put_statement(out: &mut [u8], at: usize, holding: Holding) -> usize
     ensures { λ r. ⌜ Wrote (now (out .entry)) at (statementOf holding) (now (out .exit)) r ⌝ }
-    ensures { λ _. ⌜ length (statementOf holding) ≤ 15783 ⌝ }
+    ensures { λ _. ⌜ length (statementOf holding) ≤ statementWidth ⌝ }
 {
     let n = holding.count;
     let start = statement_field::put_start(out, at, 72);
     let mut next = statement_field::put_field(out, start, n as u64, 10);
     let mut i: usize = 0;
-    while i < 16 {
+    while i < MOST_AREAS {
         if n <= i {
             return next;
         }

@@ -1,26 +1,23 @@
--- The table of cases of each entry, on a holding: "The smallest number that applies is given, otherwise none".
-use mathlib.Core.List.{List, [], _∷_}
-use lib.Dec.{leb}
-use Rattle.refusals.specs.declared.Refusal.the-variants.{TableAfterArea}
-use Rattle.refusals.specs.Refusals.{Case, _⇒_}
-use Rattle.line_entry.specs.declared.Entry.{Entry}
-use Rattle.line_entry.specs.declared.Entry.the-variants.{Open, Add, Clear, Plant, File, Withdraw, Column}
-use Rattle.holding.specs.declared.Holding.{Holding}
-use Rattle.holding.specs.Find.{findArea}
-use Rattle.holding_look.specs.Standing.{areaAt, lookedUp}
-use Rattle.step_open.specs.Opening.{openCases}
-use Rattle.step_add.specs.Adding.{newSub, addCases}
-use Rattle.step_clear.specs.Clearing.{clearCases}
-use Rattle.step_plant.specs.Planting.{plantCases}
-use Rattle.step_file.specs.Filing.{fileCases}
-use Rattle.step_withdraw.specs.Withdrawing.{withdrawCases}
+-- The table of cases of each act, on the area that was looked up: "The smallest number that applies is given, otherwise none".
+use Rattle.laws.specs.{ℕ, List}
+use Rattle.refusals.specs.{Case}
+use Rattle.line_entry.specs.{Act, AreaAct}
+use Rattle.holding.specs.{Holding}
+use Rattle.holding_look.specs.{Looked, lookedUp}
+use Rattle.step_open.specs.{openCases}
+use Rattle.step_add.specs.{newSub, addCases}
+use Rattle.step_clear.specs.{clearCases}
+use Rattle.step_plant.specs.{plantCases}
+use Rattle.step_file.specs.{fileCases}
+use Rattle.step_withdraw.specs.{withdrawCases}
 
-unfoldable pub casesOf : Holding → Entry → List Case
-casesOf holding (Open area opening) = openCases (lookedUp holding area) area opening
-casesOf holding (Add area sub land forest year) =
-    let found = findArea holding area in addCases area (newSub sub land forest year) found (areaAt holding found)
-casesOf holding (Clear area sub year) = let found = findArea holding area in clearCases area sub year found (areaAt holding found)
-casesOf holding (Plant area sub forest year) = let found = findArea holding area in plantCases area sub forest year found (areaAt holding found)
-casesOf holding (File area last) = let found = findArea holding area in fileCases area last found (areaAt holding found)
-casesOf holding (Withdraw area) = let found = findArea holding area in withdrawCases area found (areaAt holding found)
-casesOf holding (Column column cells) = leb 1 (holding .count) ⇒ TableAfterArea ∷ []
+unfoldable pub actCases : Looked → ℕ → Act → List Case
+actCases looked area (Act.Open opening) = openCases looked area opening
+actCases looked area (Act.Add sub land forest year) = addCases area (newSub sub land forest year) (looked .found) (looked .area)
+actCases looked area (Act.Clear sub year) = clearCases area sub year (looked .found) (looked .area)
+actCases looked area (Act.Plant sub forest year) = plantCases area sub forest year (looked .found) (looked .area)
+actCases looked area (Act.File last) = fileCases area last (looked .found) (looked .area)
+actCases looked area Act.Withdraw = withdrawCases area (looked .found) (looked .area)
+
+abbrev pub casesOf : Holding → AreaAct → List Case
+casesOf holding on = actCases (lookedUp holding (on .area)) (on .area) (on .act)

@@ -1,25 +1,13 @@
 -- "S,area,sub,hectares,type,planted": a sub-area is added. "Its stock at the opening year is added to the area's opening stock."
-use Prim.Native.Nat.{ℕ, _+_}
-use mathlib.Core.Bool.{not, _&&_}
-use mathlib.Core.List.{List, [], _∷_, _++_}
-use lib.Dec.{eqb, ltb, leb}
-use lib.ListN.{set}
-use Rattle.refusals.specs.declared.Refusal.the-variants.{AreaOrSubNumber, Hectares, YearRange, SubUsed, SubsFull, AreaFiled, PlantedAfterOpening}
-use Rattle.refusals.specs.Refusals.{Case, _⇒_, smallest}
-use Rattle.units.specs.declared.Tenths.{Tenths}
-use Rattle.forest.specs.declared.Forest.{Forest}
-use Rattle.ranges.specs.Ranges.{isArea, isSub, isLand, isPlanted}
-use Rattle.holding.specs.declared.Sub.{Sub}
-use Rattle.holding.specs.declared.Area.{Area}
-use Rattle.holding.specs.declared.Found.{Found}
-use Rattle.holding.specs.Holding.{mostSubs, noResidue}
-use Rattle.holding.specs.Find.{findSub}
-use Rattle.holding_look.specs.declared.Looked.{Looked}
-use Rattle.holding_look.specs.Standing.{known}
-use Rattle.step_outcome.specs.declared.Outcome.{Outcome}
-use Rattle.step_outcome.specs.declared.Report.the-variants.{Nothing}
-use Rattle.step_outcome.specs.Outcomes.{accepted, answered, areaCases}
-use Rattle.stocks.specs.Stocks.{subStock}
+use Rattle.laws.specs.{ℕ, _+_, not, _&&_, List, [], _∷_, _++_, eqb, ltb, leb, set}
+use Rattle.refusals.specs.{Case, _⇒_, smallest, Refusal}
+use Rattle.units.specs.{Tenths}
+use Rattle.forest.specs.{Forest}
+use Rattle.ranges.specs.{isArea, isSub, isLand, isPlanted}
+use Rattle.holding.specs.{Sub, Area, Found, mostSubs, noResidue, withSubs, withStock, findSub}
+use Rattle.holding_look.specs.{Looked, known}
+use Rattle.step_outcome.specs.{Outcome, accepted, answered, areaCases, Report}
+use Rattle.stocks.specs.{subStock}
 
 -- "Land cleared before its area opened enters without residue."
 abbrev pub newSub : ℕ → Tenths → Forest → ℕ → Sub
@@ -28,33 +16,23 @@ newSub number land forest planted = record { number = number; tenths = land; for
 -- "25 sub already used; 26 sixteen subs stand; 27 area has filed"; "32 planted after opening", of an area that was looked up
 unfoldable pub addCases : ℕ → Sub → Found → Area → List Case
 addCases number sub found area =
-    not (isArea number && isSub (sub .number)) ⇒ AreaOrSubNumber
-    ∷ not (isLand (sub .tenths)) ⇒ Hectares
-    ∷ not (isPlanted (sub .forest) (sub .planted)) ⇒ YearRange
+    not (isArea number && isSub (sub .number)) ⇒ Refusal.AreaOrSubNumber
+    ∷ not (isLand (sub .tenths)) ⇒ Refusal.Hectares
+    ∷ not (isPlanted (sub .forest) (sub .planted)) ⇒ Refusal.YearRange
     ∷ (areaCases found area
-    ++ (known (findSub area (sub .number)) ⇒ SubUsed
-    ∷ leb mostSubs (area .count) ⇒ SubsFull
-    ∷ not (eqb (area .returns) 0) ⇒ AreaFiled
-    ∷ ltb (area .opening) (sub .planted) ⇒ PlantedAfterOpening
+    ++ (known (findSub area (sub .number)) ⇒ Refusal.SubUsed
+    ∷ leb mostSubs (area .count) ⇒ Refusal.SubsFull
+    ∷ not (eqb (area .returns) 0) ⇒ Refusal.AreaFiled
+    ∷ ltb (area .opening) (sub .planted) ⇒ Refusal.PlantedAfterOpening
     ∷ []))
 
 unfoldable pub addedArea : List ℕ → List ℕ → Area → Sub → Area
-addedArea own default area sub = record {
-  number = area .number;
-  opening = area .opening;
-  «open_year» = area .«open_year»;
-  latest = area .latest;
-  withdrawn = area .withdrawn;
-  returns = area .returns;
-  stock = record { 0 = area .stock .0 + subStock own default sub (area .opening) .0 };
-  received = area .received;
-  surrendered = area .surrendered;
-  count = area .count + 1;
-  subs = set (area .subs) (area .count) sub;
-}
+addedArea own default area sub =
+    withStock (record { 0 = area .stock .0 + subStock own default sub (area .opening) .0 })
+    (withSubs (area .count + 1) (set (area .subs) (area .count) sub) area)
 
 unfoldable pub added : List ℕ → List ℕ → Looked → ℕ → Sub → Outcome
 added own default looked number sub =
     let area = looked .area in
     answered (smallest (addCases number sub (looked .found) area))
-    (accepted Nothing (looked .found) (looked .count) (addedArea own default area sub))
+    (accepted Report.Nothing (looked .found) (looked .count) (addedArea own default area sub))

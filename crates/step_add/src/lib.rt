@@ -1,12 +1,14 @@
 // S adds a sub-area. Both tables are lent: the participant's, and the cells of Schedule 6.
 ghost use mathlib.Core.Path.{_≡_};
 ghost use Prim.Native.Nat.{_<_, _*_, _≤_};
-ghost use Rattle.refusals.specs.Refusals.{smallest};
-ghost use Rattle.holding.specs.Holding.{mostSubs};
-ghost use Rattle.step_add.specs.Adding.{newSub, addCases, addedArea, added};
+ghost use Rattle.refusals.specs.{smallest};
+ghost use Rattle.holding.specs.{mostSubs};
+ghost use Rattle.statement_carried.specs.{stockForSub};
+ghost use Rattle.step_add.specs.{newSub, addCases, addedArea, added};
 use forest::Forest;
 use holding::Area;
 use holding::Found;
+use holding::MOST_SUBS;
 use holding::Residue;
 use holding::Sub;
 use holding_look::Looked;
@@ -24,7 +26,7 @@ fn verdict(number: u16, sub: Sub, found: Found, area: Area) -> Verdict
     let forest = sub.forest;
     let used = holding_look::is_known(holding::find_sub(area, sub.number));
     let v = refusals::weigh(
-        Verdict::Clear,
+        Verdict::Accepted,
         !(ranges::is_area(number) & ranges::is_sub(sub.number)),
         Refusal::AreaOrSubNumber,
     );
@@ -36,13 +38,13 @@ fn verdict(number: u16, sub: Sub, found: Found, area: Area) -> Verdict
     );
     let v = step_outcome::weigh_area(v, found, area);
     let v = refusals::weigh(v, used, Refusal::SubUsed);
-    let v = refusals::weigh(v, 16 <= area.count, Refusal::SubsFull);
+    let v = refusals::weigh(v, MOST_SUBS <= area.count, Refusal::SubsFull);
     let v = refusals::weigh(v, area.returns != 0, Refusal::AreaFiled);
     refusals::weigh(v, area.opening < sub.planted, Refusal::PlantedAfterOpening)
 }
 
 fn added_area<'a>(own: &'a [u16], default: &'a [u16], area: Area, sub: Sub) -> Area
-    requires { ⌜ (area .count < mostSubs) × (area .stock .0 ≤ 60000000000 * mostSubs) ⌝ }
+    requires { ⌜ (area .count < mostSubs) × (area .stock .0 ≤ stockForSub * mostSubs) ⌝ }
     ensures { λ r. ⌜ r ≡ addedArea (now (own .entry)) (now (default .entry)) area sub ⌝ }
 {
     let count = area.count;
@@ -63,9 +65,9 @@ fn add_sub<'a>(own: &'a [u16], default: &'a [u16], looked: Looked, number: u16, 
     let area = looked.area;
     let v = verdict(number, sub, found, area);
     match v {
-        Verdict::Turned(refusal) => step_outcome::turned(refusal),
-        Verdict::Clear => Outcome {
-            verdict: Verdict::Clear,
+        Verdict::Refused(refusal) => step_outcome::turned(refusal),
+        Verdict::Accepted => Outcome {
+            verdict: Verdict::Accepted,
             report: Report::Nothing,
             place: found,
             count: looked.count,

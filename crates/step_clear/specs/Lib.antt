@@ -1,1 +1,2 @@
 pub mod Clearing
+unfoldable pub use Clearing.{clearCases, clearedSub, clearedArea, cleared}

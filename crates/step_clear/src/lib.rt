@@ -1,7 +1,7 @@
 // C clears a sub-area: its trees become its residue.
 ghost use mathlib.Core.Path.{_≡_};
-ghost use Rattle.refusals.specs.Refusals.{smallest};
-ghost use Rattle.step_clear.specs.Clearing.{clearCases, clearedSub, clearedArea, cleared};
+ghost use Rattle.refusals.specs.{smallest};
+ghost use Rattle.step_clear.specs.{clearCases, clearedSub, clearedArea, cleared};
 use forest::Forest;
 use holding::Area;
 use holding::Found;
@@ -19,7 +19,7 @@ fn verdict(number: u16, sub: u8, year: u16, found: Found, area: Area) -> Verdict
     let stand = holding::find_sub(area, sub);
     let forest = holding_look::sub_at(area, stand).forest;
     let v = refusals::weigh(
-        Verdict::Clear,
+        Verdict::Accepted,
         !(ranges::is_area(number) & ranges::is_sub(sub)),
         Refusal::AreaOrSubNumber,
     );
@@ -64,9 +64,9 @@ pub fn clear(looked: Looked, number: u16, sub: u8, year: u16) -> Outcome
     let area = looked.area;
     let v = verdict(number, sub, year, found, area);
     match v {
-        Verdict::Turned(refusal) => step_outcome::turned(refusal),
-        Verdict::Clear => Outcome {
-            verdict: Verdict::Clear,
+        Verdict::Refused(refusal) => step_outcome::turned(refusal),
+        Verdict::Accepted => Outcome {
+            verdict: Verdict::Accepted,
             report: Report::Nothing,
             place: found,
             count: looked.count,

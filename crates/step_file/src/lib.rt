@@ -1,16 +1,17 @@
 // R files a return: the change of the stock since the last, and the units received or due for it.
 // Both tables are lent: the participant's, and the cells of Schedule 6.
 ghost use mathlib.Core.Path.{_≡_};
-ghost use Rattle.refusals.specs.Refusals.{smallest};
-ghost use Rattle.statement_carried.specs.Carried.{fieldsCarried};
+ghost use Rattle.refusals.specs.{smallest};
+ghost use Rattle.statement_carried.specs.{fieldsCarried};
 ghost use Prim.Native.Nat.{_≤_};
 ghost use mathlib.Core.Bool.{true};
-ghost use Rattle.step_file.specs.Filing.{fileCases, receivedOf, dueOf, settledOf, filed};
+ghost use Rattle.step_file.specs.{fileCases, receivedOf, dueOf, settledOf, filed};
 use holding::Area;
 use holding::Found;
 use holding_look::Looked;
 use refusals::Refusal;
 use refusals::Verdict;
+use step_outcome::Filed;
 use step_outcome::Outcome;
 use step_outcome::Report;
 use units::Change;
@@ -19,7 +20,7 @@ fn verdict(number: u16, last: u16, found: Found, area: Area) -> Verdict
     ensures { λ r. ⌜ r ≡ smallest (fileCases number last found area) ⌝ }
 {
     let v = refusals::weigh(
-        Verdict::Clear,
+        Verdict::Accepted,
         !ranges::is_area(number),
         Refusal::AreaOrSubNumber,
     );
@@ -79,7 +80,7 @@ fn settle<'a>(own: &'a [u16], default: &'a [u16], area: Area, number: u16, last:
     after.surrendered = area.surrendered + owed;
     let balance = after.received - after.surrendered;
     Settled {
-        report: Report::Return {
+        report: Report::Return(Filed {
             area: number,
             first: area.open_year,
             last,
@@ -87,7 +88,7 @@ fn settle<'a>(own: &'a [u16], default: &'a [u16], area: Area, number: u16, last:
             received: gained,
             due: owed,
             balance,
-        },
+        }),
         area: after,
     }
 }
@@ -105,13 +106,13 @@ pub fn file<'a>(
     let area = looked.area;
     let v = verdict(number, last, found, area);
     match v {
-        Verdict::Turned(refusal) => step_outcome::turned(refusal),
-        Verdict::Clear => {
+        Verdict::Refused(refusal) => step_outcome::turned(refusal),
+        Verdict::Accepted => {
             let settled = settle(own, default, area, number, last);
             let report = settled.report;
             let after = settled.area;
             Outcome {
-                verdict: Verdict::Clear,
+                verdict: Verdict::Accepted,
                 report,
                 place: found,
                 count: looked.count,

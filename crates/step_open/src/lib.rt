@@ -1,8 +1,9 @@
 // A opens an accounting area.
 ghost use mathlib.Core.Path.{_≡_};
-ghost use Rattle.refusals.specs.Refusals.{smallest};
-ghost use Rattle.step_open.specs.Opening.{openCases, opened};
+ghost use Rattle.refusals.specs.{smallest};
+ghost use Rattle.step_open.specs.{openCases, opened};
 use holding::Found;
+use holding::MOST_AREAS;
 use holding_look::Looked;
 use refusals::Refusal;
 use refusals::Verdict;
@@ -15,14 +16,14 @@ fn verdict(looked: Looked, number: u16, opening: u16) -> Verdict
     let found = looked.found;
     let area = looked.area;
     let v = refusals::weigh(
-        Verdict::Clear,
+        Verdict::Accepted,
         !ranges::is_area(number),
         Refusal::AreaOrSubNumber,
     );
     let v = refusals::weigh(v, !ranges::is_year(opening), Refusal::YearRange);
     let v = step_outcome::weigh_carried(v, found, area);
     let v = refusals::weigh(v, holding_look::is_known(found), Refusal::AreaUsed);
-    refusals::weigh(v, 16 <= looked.count, Refusal::AreasFull)
+    refusals::weigh(v, MOST_AREAS <= looked.count, Refusal::AreasFull)
 }
 
 pub fn open(looked: Looked, number: u16, opening: u16) -> Outcome
@@ -30,15 +31,15 @@ pub fn open(looked: Looked, number: u16, opening: u16) -> Outcome
 {
     let v = verdict(looked, number, opening);
     match v {
-        Verdict::Turned(refusal) => step_outcome::turned(refusal),
-        Verdict::Clear => {
+        Verdict::Refused(refusal) => step_outcome::turned(refusal),
+        Verdict::Accepted => {
             let count = looked.count;
             let mut area = holding::empty_area();
             area.number = number;
             area.opening = opening;
             area.open_year = opening;
             Outcome {
-                verdict: Verdict::Clear,
+                verdict: Verdict::Accepted,
                 report: Report::Nothing,
                 place: Found::At(count),
                 count: count + 1,

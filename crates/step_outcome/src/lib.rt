@@ -1,31 +1,31 @@
 // What a step answers: the verdict, the report, and the one area that comes to stand at a place, of how many.
 ghost use mathlib.Core.Path.{_≡_};
-ghost use Rattle.refusals.specs.Refusals.{weighed, weighAll};
-ghost use Rattle.refusals.specs.declared.Refusal.the-variants.{CarriedStatement};
-ghost use Rattle.step_outcome.specs.Outcomes.{turnedBack, placed, uncarried, areaCases};
+ghost use Rattle.refusals.specs.{weighed, weighAll};
+ghost use Rattle.step_outcome.specs.{turnedBack, placed, uncarried, areaCases};
 use holding::Area;
 use holding::Found;
 use holding::Holding;
+use holding::MOST_AREAS;
 use refusals::Refusal;
 use refusals::Verdict;
 use units::Change;
 
-// What is reported of an area: a return's years, change, units received, units due and balance; or the units due on withdrawal.
+// What a return reports: its area, years and change, the units received and due, and the balance.
+pub struct Filed {
+    pub area: u16,
+    pub first: u16,
+    pub last: u16,
+    pub change: Change,
+    pub received: u64,
+    pub due: u64,
+    pub balance: u64,
+}
+
+// What is reported of an area: a return, or the units due on withdrawal.
 pub enum Report {
     Nothing,
-    Return {
-        area: u16,
-        first: u16,
-        last: u16,
-        change: Change,
-        received: u64,
-        due: u64,
-        balance: u64,
-    },
-    Withdrawal {
-        area: u16,
-        due: u64,
-    },
+    Return(Filed),
+    Withdrawal { area: u16, due: u64 },
 }
 
 // Where a step is turned back there is no place, and the area is the empty one.
@@ -42,7 +42,7 @@ pub fn turned(refusal: Refusal) -> Outcome
 {
     let area = holding::empty_area();
     Outcome {
-        verdict: Verdict::Turned(refusal),
+        verdict: Verdict::Refused(refusal),
         report: Report::Nothing,
         place: Found::Nowhere,
         count: 0,
@@ -52,7 +52,7 @@ pub fn turned(refusal: Refusal) -> Outcome
 
 // 11: the area found has fields that no statement carries.
 pub fn weigh_carried(so_far: Verdict, found: Found, area: Area) -> Verdict
-    ensures { λ r. ⌜ r ≡ weighed «so_far» (uncarried found area) CarriedStatement ⌝ }
+    ensures { λ r. ⌜ r ≡ weighed «so_far» (uncarried found area) Refusal.CarriedStatement ⌝ }
 {
     let known = holding_look::is_known(found);
     let carried = statement_carried::fields(area);
@@ -77,7 +77,7 @@ pub fn place(holding: Holding, outcome: Outcome) -> Holding
     let mut after = holding;
     if let Found::At(i) = found {
         let area = outcome.area;
-        if i < 16 {
+        if i < MOST_AREAS {
             after.areas[i] = area;
         }
         after.count = outcome.count;

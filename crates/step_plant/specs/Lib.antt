@@ -1,1 +1,2 @@
 pub mod Planting
+unfoldable pub use Planting.{plantCases, plantedSub, plantedArea, planted}

@@ -1,7 +1,7 @@
 // P plants a sub-area that has no trees.
 ghost use mathlib.Core.Path.{_≡_};
-ghost use Rattle.refusals.specs.Refusals.{smallest};
-ghost use Rattle.step_plant.specs.Planting.{plantCases, plantedSub, plantedArea, planted};
+ghost use Rattle.refusals.specs.{smallest};
+ghost use Rattle.step_plant.specs.{plantCases, plantedSub, plantedArea, planted};
 use forest::Forest;
 use holding::Area;
 use holding::Found;
@@ -18,7 +18,7 @@ fn verdict(number: u16, sub: u8, forest: Forest, year: u16, found: Found, area: 
     let stand = holding::find_sub(area, sub);
     let standing = holding_look::sub_at(area, stand).forest;
     let v = refusals::weigh(
-        Verdict::Clear,
+        Verdict::Accepted,
         !(ranges::is_area(number) & ranges::is_sub(sub)),
         Refusal::AreaOrSubNumber,
     );
@@ -63,9 +63,9 @@ pub fn plant(looked: Looked, number: u16, sub: u8, forest: Forest, year: u16) ->
     let area = looked.area;
     let v = verdict(number, sub, forest, year, found, area);
     match v {
-        Verdict::Turned(refusal) => step_outcome::turned(refusal),
-        Verdict::Clear => Outcome {
-            verdict: Verdict::Clear,
+        Verdict::Refused(refusal) => step_outcome::turned(refusal),
+        Verdict::Accepted => Outcome {
+            verdict: Verdict::Accepted,
             report: Report::Nothing,
             place: found,
             count: looked.count,

@@ -1,1 +1,2 @@
 pub mod Withdrawing
+unfoldable pub use Withdrawing.{withdrawCases, withdrawnArea, withdrawn}

@@ -1,7 +1,7 @@
 // W withdraws an area: its whole balance is due.
 ghost use mathlib.Core.Path.{_≡_};
-ghost use Rattle.refusals.specs.Refusals.{smallest};
-ghost use Rattle.step_withdraw.specs.Withdrawing.{withdrawCases, withdrawn};
+ghost use Rattle.refusals.specs.{smallest};
+ghost use Rattle.step_withdraw.specs.{withdrawCases, withdrawn};
 use holding::Area;
 use holding::Found;
 use holding_look::Looked;
@@ -14,7 +14,7 @@ fn verdict(number: u16, found: Found, area: Area) -> Verdict
     ensures { λ r. ⌜ r ≡ smallest (withdrawCases number found area) ⌝ }
 {
     let v = refusals::weigh(
-        Verdict::Clear,
+        Verdict::Accepted,
         !ranges::is_area(number),
         Refusal::AreaOrSubNumber,
     );
@@ -28,14 +28,14 @@ pub fn withdraw(looked: Looked, number: u16) -> Outcome
     let area = looked.area;
     let v = verdict(number, found, area);
     match v {
-        Verdict::Turned(refusal) => step_outcome::turned(refusal),
-        Verdict::Clear => {
+        Verdict::Refused(refusal) => step_outcome::turned(refusal),
+        Verdict::Accepted => {
             let due = area.received - area.surrendered;
             let mut after = area;
             after.withdrawn = true;
             after.surrendered = area.surrendered + due;
             Outcome {
-                verdict: Verdict::Clear,
+                verdict: Verdict::Accepted,
                 report: Report::Withdrawal { area: number, due },
                 place: found,
                 count: looked.count,

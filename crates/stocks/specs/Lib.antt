@@ -1,1 +1,2 @@
 pub mod Stocks
+unfoldable pub use Stocks.{treesOn, residueOn, subStock, areaStock}

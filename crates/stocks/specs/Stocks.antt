@@ -1,25 +1,19 @@
 -- Sub-area stock: "Stock on 1 January of year y, from S entries and from clearings and plantings of earlier years .."
 -- `own` is the participant's table, `default` the cells of Schedule 6 as they are lent.
-use Prim.Native.Nat.{ℕ, _+_, _-_}
-use mathlib.Core.List.{List}
-use Rattle.laws.specs.Elements.{sumBy}
-use Rattle.units.specs.declared.Kilograms.{Kilograms}
-use Rattle.units.specs.Units.{treesOf, residueOf}
-use Rattle.schedules.specs.declared.Kind.the-variants.{Stock, Residue}
-use Rattle.rates.specs.Rates.{rateSix}
-use Rattle.rates.specs.Decay.{shareAfter}
-use Rattle.holding.specs.declared.Sub.{Sub}
-use Rattle.holding.specs.declared.Area.{Area}
-use Rattle.holding.specs.Holding.{subsOf}
+use Rattle.laws.specs.{ℕ, _+_, _-_, List, sumBy}
+use Rattle.units.specs.{Kilograms, treesOf, residueOf}
+use Rattle.schedules.specs.{Kind}
+use Rattle.rates.specs.{rateSix, shareAfter}
+use Rattle.holding.specs.{Sub, Area, subsOf}
 
 -- "trees planted in p: tenths × stock cell at age (y − p) × 10"
 unfoldable pub treesOn : List ℕ → List ℕ → Sub → ℕ → Kilograms
-treesOn own default sub y = treesOf (sub .tenths) (rateSix own default Stock (sub .forest) (y - sub .planted))
+treesOn own default sub y = treesOf (sub .tenths) (rateSix own default Kind.Stock (sub .forest) (y - sub .planted))
 
 -- "residue of the latest clearing, in year c: tenths × residue cell at the age and type cleared × share, where share is .. at y − c"
 unfoldable pub residueOn : List ℕ → List ℕ → Sub → ℕ → Kilograms
 residueOn own default sub y =
-    residueOf (sub .tenths) (rateSix own default Residue (sub .residue .forest) (sub .residue .age)) (shareAfter (y - sub .residue .year))
+    residueOf (sub .tenths) (rateSix own default Kind.Residue (sub .residue .forest) (sub .residue .age)) (shareAfter (y - sub .residue .year))
 
 unfoldable pub subStock : List ℕ → List ℕ → Sub → ℕ → Kilograms
 subStock own default sub y = record { 0 = treesOn own default sub y .0 + residueOn own default sub y .0 }

@@ -1,8 +1,9 @@
 // The carbon stock of a sub-area and of an area on 1 January of a year.
 ghost use mathlib.Core.Path.{_≡_};
 ghost use Prim.Native.Nat.{_*_, _≤_};
-ghost use Rattle.stocks.specs.Stocks.{treesOn, residueOn, subStock, areaStock};
+ghost use Rattle.stocks.specs.{treesOn, residueOn, subStock, areaStock};
 use holding::Area;
+use holding::MOST_SUBS;
 use holding::Sub;
 use schedules::Kind;
 use units::Kilograms;
@@ -43,7 +44,7 @@ pub fn area_stock<'a>(own: &'a [u16], default: &'a [u16], area: Area, year: u16)
     let n = area.count;
     let mut sum: u64 = 0;
     let mut i: usize = 0;
-    while i < 16 {
+    while i < MOST_SUBS {
         if n <= i {
             return Kilograms(sum);
         }

@@ -1,17 +1,10 @@
 -- The tests of a table with its columns, read as facts and made from them; ten columns of at most 101 cells bound its length.
-use Prim.Native.Nat.{ℕ, _≤_}
-use mathlib.Core.Bool.{Bool, true, false, _&&_, _||_}
-use mathlib.Core.Path.{_≡_, refl}
-use mathlib.Core.List.{List}
-use native.Mathlib.Omega.{arith}
-use borrow.Author.Tests.{le-leb, eq-eqb, leb-true, eqb-true}
-use lib.Dec.{eqb}
-use lib.ListN.{length, length-take, length-drop}
-use Rattle.laws.specs.Lists.{eachAtMost, sumOf}
+use Rattle.laws.proofs.{ℕ, _≤_, Bool, true, false, _&&_, _||_, _≡_, refl, List, arith, le-leb, eq-eqb, leb-true, eqb-true, eqb, length, length-take, length-drop}
+use Rattle.laws.specs.{eachAtMost, sumOf}
 use Rattle.laws.proofs.Lists.{and-left, and-right, both, sum-at-most}
-use Rattle.schedules.specs.Schedules.{cellCeiling}
-use Rattle.table_parts.specs.Parts.{columnCount, lengthsOf, cellsOf}
-use Rattle.table.specs.Participant.{longestColumn, longestTable, hasColumns, isTable}
+use Rattle.schedules.specs.{cellCeiling}
+use Rattle.table_parts.specs.{columnCount, lengthsOf, cellsOf}
+use Rattle.table.specs.{longestColumn, longestTable, hasColumns, isTable}
 
 pub record Columns (table : List ℕ) : Type 0 where
   pub ten : columnCount ≤ length table

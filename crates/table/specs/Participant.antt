@@ -1,23 +1,16 @@
 -- The participant's table. "A participant's table is lent together with the length of each column: a list of 16-bit numbers, first ten lengths
 -- (0 to 101), for stock of P, D, S, H, N, then residue in that order; then the cells in tenths, at most 30,000 each (else 6), ages from 0,
 -- columns joined, no remainder. .. The empty list means no participant's table."
-use Prim.Native.Nat.{ℕ}
-use mathlib.Core.Bool.{Bool, not, _&&_, _||_}
-use mathlib.Core.List.{List, [], _∷_}
-use lib.Dec.{leb, eqb}
-use lib.ListN.{length}
-use Rattle.laws.specs.Lists.{eachAtMost, sumOf}
-use Rattle.refusals.specs.declared.Refusal.the-variants.{TableColumn}
-use Rattle.refusals.specs.declared.Verdict.{Verdict}
-use Rattle.refusals.specs.Refusals.{_⇒_, smallest}
-use Rattle.schedules.specs.Schedules.{cellCeiling}
-use Rattle.table_parts.specs.Parts.{columnCount, lengthsOf, cellsOf}
+use Rattle.laws.specs.{_+_, _*_, ℕ, Bool, not, _&&_, _||_, List, [], _∷_, leb, eqb, length, eachAtMost, sumOf}
+use Rattle.refusals.specs.{Verdict, _⇒_, smallest, Refusal}
+use Rattle.schedules.specs.{cellCeiling}
+use Rattle.table_parts.specs.{columnCount, lengthsOf, cellsOf}
 
 abbrev pub longestColumn : ℕ
 longestColumn = 101
 
 abbrev pub longestTable : ℕ
-longestTable = 1020
+longestTable = columnCount + columnCount * longestColumn
 
 -- ten lengths, as many cells as they say, and each within its bound
 unfoldable pub hasColumns : List ℕ → Bool
@@ -32,4 +25,4 @@ isTable table = eqb (length table) 0 || hasColumns table
 
 -- "6 table column, length .., order, cell or odd byte"
 unfoldable pub judged : List ℕ → Verdict
-judged table = smallest (not (isTable table) ⇒ TableColumn ∷ [])
+judged table = smallest (not (isTable table) ⇒ Refusal.TableColumn ∷ [])

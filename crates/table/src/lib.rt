@@ -1,7 +1,7 @@
 // The participant's table, judged.
 ghost use mathlib.Core.Path.{_≡_};
-ghost use Rattle.laws.specs.Lists.{eachAtMost};
-ghost use Rattle.table.specs.Participant.{hasColumns, judged};
+ghost use Rattle.laws.specs.{eachAtMost};
+ghost use Rattle.table.specs.{hasColumns, judged};
 use refusals::Refusal;
 use refusals::Verdict;
 use table_parts::COLUMNS;
@@ -9,6 +9,9 @@ use table_parts::COLUMNS;
 pub const LONGEST_COLUMN: u16 = 101;
 
 pub const CELL_CEILING: u16 = 30000;
+
+// Ten lengths, and ten columns of the greatest length.
+pub const LONGEST_TABLE: usize = COLUMNS + COLUMNS * LONGEST_COLUMN as usize;
 
 // Whether no number is over the ceiling.
 pub fn each_at_most(numbers: &[u16], ceiling: u16) -> bool
@@ -45,5 +48,5 @@ pub fn judge(table: &[u16]) -> Verdict
 {
     let none = table.len() == 0;
     let kept = has_columns(table);
-    refusals::weigh(Verdict::Clear, !(none | kept), Refusal::TableColumn)
+    refusals::weigh(Verdict::Accepted, !(none | kept), Refusal::TableColumn)
 }

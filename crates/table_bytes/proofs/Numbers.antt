@@ -1,17 +1,8 @@
 -- The numbers of bytes, a number at a time as the loop goes, and what a clear verdict says of them.
-use Prim.Native.Nat.{ℕ, suc, _+_, _*_, _/_, _%_, _<_, _≤_}
-use mathlib.Core.Path.{_≡_, refl, sym, ap, _∙_}
-use mathlib.Core.List.{List, [], _∷_}
-use native.Mathlib.Numerals.{add-one}
-use native.Mathlib.Omega.{arith}
-use lib.ListN.{length, getD, set, drop, drop-of-length-le}
-use lib.Seq.{drop-cons, sets}
-use borrow.Author.Tests.{eqb-true, ltb-false, not-false}
-use Rattle.refusals.specs.declared.Refusal.the-variants.{TableColumn, OutputShort}
-use Rattle.refusals.specs.declared.Verdict.the-variants.{Clear}
-use Rattle.refusals.specs.Refusals.{weighAll, smallest}
+use Rattle.laws.proofs.{ℕ, suc, _+_, _*_, _/_, _%_, _<_, _≤_, _≡_, refl, sym, ap, _∙_, List, [], _∷_, add-one, arith, length, getD, set, drop, drop-of-length-le, drop-cons, sets, eqb-true, ltb-false, not-false}
+use Rattle.refusals.specs.{weighAll, smallest, Refusal, Verdict}
 use Rattle.refusals.proofs.Laws.{clear-before, clear-last}
-use Rattle.table_bytes.specs.Bytes.{numbersOf, decodable}
+use Rattle.table_bytes.specs.{numbersOf, decodable}
 
 pub number-count : (bytes : List ℕ) → length (numbersOf bytes) ≡ length bytes / 2
 unfolding numbersOf
@@ -38,10 +29,10 @@ module _ (b : List ℕ) (i : ℕ) where
   numbers-end out h = rw (drop-of-length-le b h)
 
 -- what a clear verdict says of the bytes and the room
-pub clear-decodable : (bytes : List ℕ) (room : ℕ) → decodable bytes room ≡ Clear → (length bytes % 2 ≡ 0) × (length bytes / 2 ≤ room)
+pub clear-decodable : (bytes : List ℕ) (room : ℕ) → decodable bytes room ≡ Verdict.Accepted → (length bytes % 2 ≡ 0) × (length bytes / 2 ≤ room)
 unfolding decodable smallest weighAll
 clear-decodable bytes room e =
-    let before = clear-before _ _ OutputShort e in (
-      eqb-true _ _ (not-false _ (clear-last Clear _ TableColumn (clear-before _ _ TableColumn before))),
-      ltb-false _ _ (clear-last _ _ OutputShort e),
+    let before = clear-before _ _ Refusal.OutputShort e in (
+      eqb-true _ _ (not-false _ (clear-last Verdict.Accepted _ Refusal.TableColumn (clear-before _ _ Refusal.TableColumn before))),
+      ltb-false _ _ (clear-last _ _ Refusal.OutputShort e),
     )

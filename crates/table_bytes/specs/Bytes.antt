@@ -1,13 +1,7 @@
 -- A table as bytes: "two bytes a number, low byte first, as the table comes in".
-use Prim.Native.Nat.{ℕ, _+_, _*_, _/_, _%_}
-use mathlib.Core.Bool.{not}
-use mathlib.Core.List.{List, [], _∷_}
-use lib.Dec.{eqb, ltb}
-use lib.ListN.{length}
-use Rattle.refusals.specs.declared.Refusal.the-variants.{TableColumn, OutputShort}
-use Rattle.refusals.specs.declared.Verdict.{Verdict}
-use Rattle.refusals.specs.Refusals.{_⇒_, smallest}
-use Rattle.table.specs.Participant.{longestTable}
+use Rattle.laws.specs.{ℕ, _+_, _*_, _/_, _%_, not, List, [], _∷_, eqb, ltb, length}
+use Rattle.refusals.specs.{Verdict, _⇒_, smallest, Refusal}
+use Rattle.table.specs.{longestTable}
 
 unfoldable pub numbersOf : List ℕ → List ℕ
 numbersOf [] = []
@@ -17,7 +11,7 @@ numbersOf (low ∷ high ∷ bytes) = (low + 256 * high) ∷ numbersOf bytes
 -- "6 .. odd byte", or more numbers than a table can have; "8 output shorter than needed"
 unfoldable pub decodable : List ℕ → ℕ → Verdict
 decodable bytes room =
-    smallest (not (eqb (length bytes % 2) 0) ⇒ TableColumn
-    ∷ ltb longestTable (length bytes / 2) ⇒ TableColumn
-    ∷ ltb room (length bytes / 2) ⇒ OutputShort
+    smallest (not (eqb (length bytes % 2) 0) ⇒ Refusal.TableColumn
+    ∷ ltb longestTable (length bytes / 2) ⇒ Refusal.TableColumn
+    ∷ ltb room (length bytes / 2) ⇒ Refusal.OutputShort
     ∷ [])

@@ -3,13 +3,12 @@ ghost use mathlib.Core.Path.{_≡_};
 ghost use Prim.Native.Nat.{_/_, _%_, _≤_};
 ghost use lib.ListN.{length};
 ghost use lib.Seq.{sets};
-ghost use Rattle.refusals.specs.Answers.{written, bufferAfter};
-ghost use Rattle.table_bytes.specs.Bytes.{numbersOf, decodable};
+ghost use Rattle.refusals.specs.{written, bufferAfter};
+ghost use Rattle.table_bytes.specs.{numbersOf, decodable};
 use refusals::Refusal;
 use refusals::Verdict;
 use refusals::Written;
-
-const LONGEST_TABLE: usize = 1020;
+use table::LONGEST_TABLE;
 
 // The numbers of the bytes, two bytes a number and the low byte first, to the front of `out`.
 fn put_numbers(bytes: &[u8], out: &mut [u16])
@@ -32,12 +31,16 @@ pub fn decode(bytes: &[u8], out: &mut [u16]) -> Written
     ensures { λ _. ⌜ now (out .exit) ≡ bufferAfter (decodable (now (bytes .entry)) (length (now (out .entry)))) (numbersOf (now (bytes .entry))) (now (out .entry)) ⌝ }
 {
     let n = bytes.len() / 2;
-    let v = refusals::weigh(Verdict::Clear, bytes.len() % 2 != 0, Refusal::TableColumn);
+    let v = refusals::weigh(
+        Verdict::Accepted,
+        bytes.len() % 2 != 0,
+        Refusal::TableColumn,
+    );
     let v = refusals::weigh(v, LONGEST_TABLE < n, Refusal::TableColumn);
     let v = refusals::weigh(v, out.len() < n, Refusal::OutputShort);
     match v {
-        Verdict::Turned(refusal) => Written::Refused(refusal),
-        Verdict::Clear => {
+        Verdict::Refused(refusal) => Written::Refused(refusal),
+        Verdict::Accepted => {
             put_numbers(bytes, out);
             Written::Count(n)
         }

@@ -1,22 +1,16 @@
 -- A table that a T line extends stays a table: the column had no cells, so the sum of the lengths grows by as many cells as come behind.
-use Prim.Native.Nat.{ℕ, _+_, _≤_, _<_}
-use mathlib.Core.Bool.{true}
-use mathlib.Core.Path.{_≡_, sym, ap, _∙_}
-use mathlib.Core.List.{List, _++_}
-use native.Mathlib.Omega.{arith}
+use Rattle.laws.proofs.{ℕ, _+_, _≤_, _<_, true, _≡_, sym, ap, _∙_, List, _++_, arith, length, getD, set, take, drop, length-set, length-take, length-append, getD-drop, leb-false, ltb-false, not-false}
 use native.Mathlib.Nat.{add-zero}
-use lib.ListN.{length, getD, set, take, drop, length-set, length-take, length-append}
-use lib.Seq.{take-at, drop-at, getD-drop}
-use borrow.Author.Tests.{leb-false, ltb-false, not-false}
-use Rattle.laws.specs.Lists.{eachAtMost, sumOf}
+use lib.Seq.{take-at, drop-at}
+use Rattle.laws.specs.{eachAtMost, sumOf}
 use Rattle.laws.proofs.Lists.{ceiling-at, ceiling-set, ceiling-append, sum-set}
-use Rattle.refusals.specs.declared.Verdict.the-variants.{Clear}
-use Rattle.refusals.proofs.Laws.{NoneApplies, none-applies}
-use Rattle.schedules.specs.Schedules.{cellCeiling}
-use Rattle.table_parts.specs.Parts.{columnCount, lengthsOf, cellsOf}
-use Rattle.table.specs.Participant.{longestColumn, isTable}
+use Rattle.refusals.specs.{Verdict}
+use Rattle.refusals.proofs.Laws.{ruled-out}
+use Rattle.schedules.specs.{cellCeiling}
+use Rattle.table_parts.specs.{columnCount, lengthsOf, cellsOf}
+use Rattle.table.specs.{longestColumn, isTable}
 use Rattle.table.proofs.Columns.{Columns, columns-read, columns-table}
-use Rattle.table_extend.specs.Extension.{isFree, longer, extensible}
+use Rattle.table_extend.specs.{isFree, longer, extensible}
 
 module _ (table : List ℕ) (column : ℕ) (cells : List ℕ) where
   free-empty : isFree table column ≡ true → getD (lengthsOf table) column 0 ≡ 0
@@ -46,13 +40,13 @@ module _ (table : List ℕ) (column : ℕ) (cells : List ℕ) where
         low = ap (eachAtMost cellCeiling) behind ∙ ceiling-append cellCeiling (cellsOf table) cells (k .low) low;
       }
 
-  pub extended-table : (room : ℕ) → extensible table column cells room ≡ Clear → isTable (longer table column cells) ≡ true
-  unfolding extensible NoneApplies
+  pub extended-table : (room : ℕ) → extensible table column cells room ≡ Verdict.Accepted → isTable (longer table column cells) ≡ true
+  unfolding extensible
   extended-table room e =
-      let n = none-applies _ e in
-      let k = columns-read table (not-false _ (n .0)) in
-      let inside = leb-false _ _ (n .1 .0) in
-      let few = ltb-false _ _ (n .1 .1 .1 .0) in
-      let low = not-false _ (n .1 .1 .1 .1 .0) in
-      let free = not-false _ (n .1 .1 .1 .1 .1 .0) in
+      let n = ruled-out _ e in
+      let k = columns-read table (not-false _ (n 0)) in
+      let inside = leb-false _ _ (n 1) in
+      let few = ltb-false _ _ (n 3) in
+      let low = not-false _ (n 4) in
+      let free = not-false _ (n 5) in
       columns-table (longer table column cells) (longer-columns k inside few low free)

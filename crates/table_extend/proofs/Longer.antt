@@ -1,20 +1,12 @@
 -- The longer table as it is stored: the table with the column's length entered, then the column's cells.
-use Prim.Native.Nat.{ℕ, _+_, _<_, _≤_}
-use mathlib.Core.Path.{_≡_, sym, ap, _∙_}
-use mathlib.Core.Bool.{true}
-use mathlib.Core.List.{List, _++_, append-assoc}
-use native.Mathlib.Omega.{arith}
-use lib.ListN.{length, set, take, drop, length-set, length-take, length-append, take-append-drop}
-use lib.Seq.{sets, set-append-left}
+use Rattle.laws.proofs.{ℕ, _+_, _<_, _≤_, _≡_, sym, ap, _∙_, true, List, _++_, append-assoc, arith, length, set, take, drop, length-set, length-take, length-append, take-append-drop, sets, leb-true, leb-false, ltb-false, not-false}
+use lib.Seq.{set-append-left}
 use Rattle.laws.proofs.Lists.{and-left}
 use Rattle.laws.proofs.Stores.{stored-in-front, stored-behind}
-use Rattle.refusals.specs.declared.Refusal.the-variants.{TableColumn, OutputShort}
-use Rattle.refusals.specs.declared.Verdict.the-variants.{Clear}
-use Rattle.refusals.specs.Refusals.{weighAll, smallest}
+use Rattle.refusals.specs.{weighAll, smallest, Refusal, Verdict}
 use Rattle.refusals.proofs.Laws.{clear-before, clear-last}
-use borrow.Author.Tests.{leb-true, leb-false, ltb-false, not-false}
-use Rattle.table.specs.Participant.{hasColumns}
-use Rattle.table_extend.specs.Extension.{longer, extensible}
+use Rattle.table.specs.{hasColumns}
+use Rattle.table_extend.specs.{longer, extensible}
 
 module _ (table : List ℕ) (column : ℕ) (cells : List ℕ) (h : column < 10) (whole : 10 ≤ length table) where
   longer-is : longer table column cells ≡ set table column (length cells) ++ cells
@@ -47,18 +39,18 @@ pub record Extensible (table : List ℕ) (column : ℕ) (cells : List ℕ) (room
   pub short : length cells ≤ 101
   pub room-for : length table + length cells ≤ room
 
-pub clear-extensible : (table : List ℕ) (column : ℕ) (cells : List ℕ) (room : ℕ) → extensible table column cells room ≡ Clear → Extensible table column cells room
+pub clear-extensible : (table : List ℕ) (column : ℕ) (cells : List ℕ) (room : ℕ) → extensible table column cells room ≡ Verdict.Accepted → Extensible table column cells room
 unfolding extensible smallest weighAll
 clear-extensible table column cells room e =
-    let six = clear-before _ _ OutputShort e in
-    let five = clear-before _ _ TableColumn six in
-    let four = clear-before _ _ TableColumn five in
-    let three = clear-before _ _ TableColumn four in
-    let two = clear-before _ _ TableColumn three in
-    let one = clear-before _ _ TableColumn two in
+    let six = clear-before _ _ Refusal.OutputShort e in
+    let five = clear-before _ _ Refusal.TableColumn six in
+    let four = clear-before _ _ Refusal.TableColumn five in
+    let three = clear-before _ _ Refusal.TableColumn four in
+    let two = clear-before _ _ Refusal.TableColumn three in
+    let one = clear-before _ _ Refusal.TableColumn two in
     record {
-      whole = columns-ten table (not-false _ (clear-last Clear _ TableColumn one));
-      in-range = leb-false _ _ (clear-last _ _ TableColumn two);
-      short = ltb-false _ _ (clear-last _ _ TableColumn four);
-      room-for = ltb-false _ _ (clear-last _ _ OutputShort e);
+      whole = columns-ten table (not-false _ (clear-last Verdict.Accepted _ Refusal.TableColumn one));
+      in-range = leb-false _ _ (clear-last _ _ Refusal.TableColumn two);
+      short = ltb-false _ _ (clear-last _ _ Refusal.TableColumn four);
+      room-for = ltb-false _ _ (clear-last _ _ Refusal.OutputShort e);
     }

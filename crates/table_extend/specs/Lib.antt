@@ -1,1 +1,2 @@
 pub mod Extension
+unfoldable pub use Extension.{begun, isFree, longer, extensible}

@@ -4,8 +4,10 @@ ghost use mathlib.Core.List.{_++_};
 ghost use Prim.Native.Nat.{_+_, _<_, _≤_};
 ghost use lib.ListN.{length, drop};
 ghost use lib.Seq.{sets};
-ghost use Rattle.refusals.specs.Answers.{written, bufferAfter};
-ghost use Rattle.table_extend.specs.Extension.{begun, isFree, longer, extensible};
+ghost use Rattle.table_parts.specs.{columnCount};
+ghost use Rattle.table.specs.{longestColumn};
+ghost use Rattle.refusals.specs.{written, bufferAfter};
+ghost use Rattle.table_extend.specs.{begun, isFree, longer, extensible};
 use refusals::Refusal;
 use refusals::Verdict;
 use refusals::Written;
@@ -23,7 +25,7 @@ fn judge(table: &[u16], column: usize, cells: &[u16], room: usize) -> Verdict
     ensures { λ r. ⌜ r ≡ extensible (now (table .entry)) column (now (cells .entry)) room ⌝ }
 {
     let whole = table::has_columns(table);
-    let v = refusals::weigh(Verdict::Clear, !whole, Refusal::TableColumn);
+    let v = refusals::weigh(Verdict::Accepted, !whole, Refusal::TableColumn);
     let v = refusals::weigh(v, table_parts::COLUMNS <= column, Refusal::TableColumn);
     let v = refusals::weigh(v, cells.len() == 0, Refusal::TableColumn);
     let v = refusals::weigh(
@@ -51,8 +53,8 @@ fn put_all(numbers: &[u16], out: &mut [u16], at: usize)
 
 // The longer table, at the front of `out`.
 fn put_longer(table: &[u16], column: usize, cells: &[u16], out: &mut [u16])
-    requires { ⌜ (column < 10) × (10 ≤ length (now table)) ⌝ }
-    requires { ⌜ (length (now cells) ≤ 101) × (length (now table) + length (now cells) ≤ length (now out)) ⌝ }
+    requires { ⌜ (column < columnCount) × (columnCount ≤ length (now table)) ⌝ }
+    requires { ⌜ (length (now cells) ≤ longestColumn) × (length (now table) + length (now cells) ≤ length (now out)) ⌝ }
     ensures { λ _. ⌜ now (out .exit) ≡ longer (now (table .entry)) column (now (cells .entry)) ++ drop (length (longer (now (table .entry)) column (now (cells .entry)))) (now (out .entry)) ⌝ }
 {
     put_all(table, out, 0);
@@ -67,8 +69,8 @@ fn extend_begun(table: &[u16], column: usize, cells: &[u16], out: &mut [u16]) ->
 {
     let v = judge(table, column, cells, out.len());
     match v {
-        Verdict::Turned(refusal) => Written::Refused(refusal),
-        Verdict::Clear => {
+        Verdict::Refused(refusal) => Written::Refused(refusal),
+        Verdict::Accepted => {
             put_longer(table, column, cells, out);
             Written::Count(table.len() + cells.len())
         }
@@ -81,7 +83,7 @@ pub fn extend(table: &[u16], column: usize, cells: &[u16], out: &mut [u16]) -> W
     ensures { λ _. ⌜ now (out .exit) ≡ bufferAfter (extensible (begun (now (table .entry))) column (now (cells .entry)) (length (now (out .entry)))) (longer (begun (now (table .entry))) column (now (cells .entry))) (now (out .entry)) ⌝ }
 {
     if table.len() == 0 {
-        let no_columns = [0u16; 10];
+        let no_columns = [0u16; table_parts::COLUMNS];
         return extend_begun(&no_columns, column, cells, out);
     }
     extend_begun(table, column, cells, out)

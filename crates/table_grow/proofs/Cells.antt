@@ -1,27 +1,16 @@
 -- The cells of a T line: the byte that ends it parts no fields, so that its fields are counted with it; and cells for which there is room
 -- are the front of what they are read into.
-use Prim.Native.Nat.{ℕ, suc, _-_, _≤_, _<_}
-use mathlib.Core.Path.{_≡_, refl, sym, ap, _∙_}
-use mathlib.Core.Bool.{Bool, true, false, cond}
-use mathlib.Core.List.{List, [], _∷_, _++_}
-use native.Mathlib.Omega.{arith}
-use borrow.Author.Tests.{eqb-true, ne-eqb, ltb-true, ltb-false, le-ltb}
-use lib.Dec.{eqb, ltb}
-use lib.ListN.{length, getD, take, drop, length-map, length-drop}
-use lib.Seq.{sets, take-suc, take-all, take-at}
+use Rattle.laws.proofs.{ℕ, suc, _-_, _≤_, _<_, _≡_, refl, sym, ap, _∙_, Bool, true, false, cond, List, [], _∷_, _++_, arith, eqb-true, ne-eqb, ltb-true, ltb-false, le-ltb, eqb, ltb, length, getD, take, drop, length-map, length-drop, sets, take-suc, take-all}
+use lib.Seq.{take-at}
 use Rattle.laws.proofs.Stores.{stored-in-front}
-use Rattle.text.specs.Fields.{extend, split}
+use Rattle.text.specs.{extend, split}
 use Rattle.text.proofs.Fields.{split-some}
-use Rattle.text_field.specs.declared.Places.{Places}
-use Rattle.text_field.specs.Places.{placesOf}
+use Rattle.text_field.specs.{Places, placesOf}
 use Rattle.text_field.proofs.Laws.{count-found}
-use Rattle.refusals.specs.declared.Refusal.{Refusal}
-use Rattle.refusals.specs.declared.Refusal.the-variants.{OutputShort}
-use Rattle.refusals.specs.declared.Verdict.{Verdict}
-use Rattle.refusals.specs.declared.Verdict.the-variants.{Clear, Turned}
-use Rattle.line_column.specs.Columns.{cellsOf, tenthsIn, tenthsAll, roomFor, filled}
-use Rattle.line.specs.Lines.{bodyOf}
-use Rattle.table_grow.specs.Growing.{lineCells}
+use Rattle.refusals.specs.{Refusal, Verdict}
+use Rattle.line_column.specs.{cellsOf, tenthsIn, tenthsAll, roomFor, filled}
+use Rattle.line.specs.{bodyOf}
+use Rattle.table_grow.specs.{lineCells}
 
 -- ---- how many there are
 
@@ -72,22 +61,22 @@ cells-counted line places e =
 -- ---- what is read of them
 
 module _ (line room : List ℕ) (read : Verdict) (e : read ≡ roomFor (split (bodyOf line)) room) where
-  room-by : read ≡ cond (ltb (length room) (length (lineCells line))) (Turned OutputShort) Clear
+  room-by : read ≡ cond (ltb (length room) (length (lineCells line))) (Verdict.Refused Refusal.OutputShort) Verdict.Accepted
   unfolding roomFor
   room-by = e ∙ rw (cells-many line) refl
 
-  pub cells-over : (r : Refusal) → read ≡ Turned r → length room < length (lineCells line)
+  pub cells-over : (r : Refusal) → read ≡ Verdict.Refused r → length room < length (lineCells line)
   cells-over r k = go (ltb (length room) (length (lineCells line))) refl (sym room-by ∙ k)
     where
-      go : (t : Bool) → ltb (length room) (length (lineCells line)) ≡ t → cond t (Turned OutputShort) Clear ≡ Turned r
+      go : (t : Bool) → ltb (length room) (length (lineCells line)) ≡ t → cond t (Verdict.Refused Refusal.OutputShort) Verdict.Accepted ≡ Verdict.Refused r
           → length room < length (lineCells line)
       go true q z = ltb-true (length room) (length (lineCells line)) q
       go false q z = let y : _≡_ {A = ℕ} 0 1 = cc in absurd (omega arith)
 
-  pub cells-within : read ≡ Clear → length (lineCells line) ≤ length room
+  pub cells-within : read ≡ Verdict.Accepted → length (lineCells line) ≤ length room
   cells-within k = go (ltb (length room) (length (lineCells line))) refl (sym room-by ∙ k)
     where
-      go : (t : Bool) → ltb (length room) (length (lineCells line)) ≡ t → cond t (Turned OutputShort) Clear ≡ Clear
+      go : (t : Bool) → ltb (length room) (length (lineCells line)) ≡ t → cond t (Verdict.Refused Refusal.OutputShort) Verdict.Accepted ≡ Verdict.Accepted
           → length (lineCells line) ≤ length room
       go true q z = let y : _≡_ {A = ℕ} 0 1 = cc in absurd (omega arith)
       go false q z = ltb-false (length room) (length (lineCells line)) q
@@ -96,7 +85,7 @@ module _ (line room : List ℕ) (read : Verdict) (e : read ≡ roomFor (split (b
   unfolding filled lineCells
   filled-is h = simp (le-ltb (length room) (length (cellsOf (split (bodyOf line)))) (omega (arith, cells-many line)))
 
-  pub cells-read : (kept : List ℕ) (n : ℕ) → kept ≡ filled (split (bodyOf line)) room → n ≡ length (lineCells line) → read ≡ Clear
+  pub cells-read : (kept : List ℕ) (n : ℕ) → kept ≡ filled (split (bodyOf line)) room → n ≡ length (lineCells line) → read ≡ Verdict.Accepted
       → take (n - 0) kept ≡ lineCells line
   cells-read kept n f q k =
       let h = cells-within k in

@@ -1,18 +1,11 @@
 -- "T,kind,type,cells: .. It extends the table; refused (6) where its column or a later one already has cells." "33 T once an area stands."
-use Prim.Native.Nat.{ℕ}
-use mathlib.Core.List.{List}
-use lib.Dec.{leb}
-use lib.ListN.{length, replicate}
-use Rattle.text.specs.Fields.{split}
-use Rattle.refusals.specs.declared.Refusal.the-variants.{TableAfterArea}
-use Rattle.refusals.specs.declared.Verdict.{Verdict}
-use Rattle.refusals.specs.declared.Verdict.the-variants.{Clear, Turned}
-use Rattle.refusals.specs.Refusals.{weighed}
-use Rattle.refusals.specs.Answers.{bufferAfter}
-use Rattle.table.specs.Participant.{longestTable}
-use Rattle.table_extend.specs.Extension.{begun, longer, extensible}
-use Rattle.line_column.specs.Columns.{cellsOf, tenthsAll}
-use Rattle.line.specs.Lines.{bodyOf}
+use Rattle.laws.specs.{ℕ, List, leb, length, replicate}
+use Rattle.text.specs.{split}
+use Rattle.refusals.specs.{Verdict, weighed, bufferAfter, Refusal}
+use Rattle.table.specs.{longestTable}
+use Rattle.table_extend.specs.{begun, longer, extensible}
+use Rattle.line_column.specs.{cellsOf, tenthsAll}
+use Rattle.line.specs.{bodyOf}
 use Rattle.table_grow.specs.declared.Grown.{Grown}
 
 -- the cells of a T line, in tenths
@@ -25,11 +18,11 @@ longerBy own line column = longer (begun own) column (lineCells line)
 
 -- 6, or 33 where areas stand; there is room for any table
 unfoldable pub growable : List ℕ → ℕ → List ℕ → ℕ → Verdict
-growable own areas line column = weighed (extensible (begun own) column (lineCells line) longestTable) (leb 1 areas) TableAfterArea
+growable own areas line column = weighed (extensible (begun own) column (lineCells line) longestTable) (leb 1 areas) Refusal.TableAfterArea
 
 abbrev pub countAfter : Verdict → List ℕ → ℕ
-countAfter Clear numbers = length numbers
-countAfter (Turned refusal) numbers = 0
+countAfter Verdict.Accepted numbers = length numbers
+countAfter (Verdict.Refused refusal) numbers = 0
 
 -- what a verdict makes of the longer table
 abbrev pub grownOf : Verdict → List ℕ → Grown

@@ -1,2 +1,4 @@
 pub mod Growing
-pub mod Sorts
+pub use declared.Grown.{Grown}
+pub use Growing.{countAfter, grownOf}
+unfoldable pub use Growing.{lineCells, longerBy, growable, grownBy}

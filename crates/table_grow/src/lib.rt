@@ -3,33 +3,31 @@ ghost use mathlib.Core.Path.{_≡_};
 ghost use mathlib.Core.List.{[]};
 ghost use lib.Dec.{leb};
 ghost use lib.ListN.{length};
-ghost use Rattle.refusals.specs.declared.Refusal.the-variants.{TableAfterArea};
-ghost use Rattle.refusals.specs.declared.Verdict.the-variants.{Turned};
-ghost use Rattle.refusals.specs.Refusals.{weighed};
-ghost use Rattle.table.specs.Participant.{longestTable};
-ghost use Rattle.table_extend.specs.Extension.{begun, longer, extensible};
-ghost use Rattle.table_grow.specs.Growing.{lineCells, grownOf, grownBy};
-ghost use Rattle.table_grow.specs.Sorts.{columnOf};
-use holding::Found;
-use line_entry::Entry;
+ghost use Rattle.refusals.specs.{weighed};
+ghost use Rattle.table.specs.{longestTable};
+ghost use Rattle.table_extend.specs.{begun, longer, extensible};
+ghost use Rattle.table_grow.specs.{lineCells, grownOf, grownBy};
 use refusals::Refusal;
 use refusals::Verdict;
 use refusals::Written;
+use table::LONGEST_TABLE;
+
+const MOST_CELLS: usize = table::LONGEST_COLUMN as usize;
 
 // Where the line is turned back there is no table: no count, and noughts.
 pub struct Grown {
     pub verdict: Verdict,
     pub count: usize,
-    pub numbers: [u16; 1020],
+    pub numbers: [u16; LONGEST_TABLE],
 }
 
 fn turned(refusal: Refusal) -> Grown
-    ensures { λ r. ⌜ r ≡ grownOf (Turned refusal) [] ⌝ }
+    ensures { λ r. ⌜ r ≡ grownOf (Verdict.Refused refusal) [] ⌝ }
 {
     Grown {
-        verdict: Verdict::Turned(refusal),
+        verdict: Verdict::Refused(refusal),
         count: 0,
-        numbers: [0u16; 1020],
+        numbers: [0u16; LONGEST_TABLE],
     }
 }
 
@@ -47,9 +45,9 @@ fn cell_count(line: &[u8]) -> usize
 
 // The table longer by a column of given cells.
 fn grow_by(own: &[u16], areas: usize, column: usize, cells: &[u16]) -> Grown
-    ensures { λ r. ⌜ r ≡ grownOf (weighed (extensible (begun (now (own .entry))) column (now (cells .entry)) longestTable) (leb 1 areas) TableAfterArea) (longer (begun (now (own .entry))) column (now (cells .entry))) ⌝ }
+    ensures { λ r. ⌜ r ≡ grownOf (weighed (extensible (begun (now (own .entry))) column (now (cells .entry)) longestTable) (leb 1 areas) Refusal.TableAfterArea) (longer (begun (now (own .entry))) column (now (cells .entry))) ⌝ }
 {
-    let mut numbers = [0u16; 1020];
+    let mut numbers = [0u16; LONGEST_TABLE];
     let answer = table_extend::extend(own, column, cells, &mut numbers);
     match answer {
         Written::Refused(refusal) => turned(refusal),
@@ -58,7 +56,7 @@ fn grow_by(own: &[u16], areas: usize, column: usize, cells: &[u16]) -> Grown
                 return turned(Refusal::TableAfterArea);
             }
             Grown {
-                verdict: Verdict::Clear,
+                verdict: Verdict::Accepted,
                 count,
                 numbers,
             }
@@ -71,43 +69,10 @@ pub fn grow(own: &[u16], areas: usize, line: &[u8], column: usize) -> Grown
     ensures { λ r. ⌜ r ≡ grownBy (now (own .entry)) areas (now (line .entry)) column ⌝ }
 {
     let count = cell_count(line);
-    let mut cells = [0u16; 101];
+    let mut cells = [0u16; MOST_CELLS];
     let read = line::read_cells(line, &mut cells);
     match read {
-        Verdict::Turned(_) => turned(Refusal::TableColumn),
-        Verdict::Clear => grow_by(own, areas, column, &cells[0..count]),
-    }
-}
-
-// The column of a T entry; every other entry is a step of the holding.
-pub fn column_of(entry: Entry) -> Found
-    ensures { λ r. ⌜ r ≡ columnOf entry ⌝ }
-{
-    match entry {
-        Entry::Column { column, cells: _ } => Found::At(column),
-        Entry::Open {
-            area: _,
-            opening: _,
-        } => Found::Nowhere,
-        Entry::Add {
-            area: _,
-            sub: _,
-            land: _,
-            forest: _,
-            planted: _,
-        } => Found::Nowhere,
-        Entry::Clear {
-            area: _,
-            sub: _,
-            year: _,
-        } => Found::Nowhere,
-        Entry::Plant {
-            area: _,
-            sub: _,
-            forest: _,
-            year: _,
-        } => Found::Nowhere,
-        Entry::File { area: _, last: _ } => Found::Nowhere,
-        Entry::Withdraw { area: _ } => Found::Nowhere,
+        Verdict::Refused(_) => turned(Refusal::TableColumn),
+        Verdict::Accepted => grow_by(own, areas, column, &cells[0..count]),
     }
 }

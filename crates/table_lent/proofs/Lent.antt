@@ -1,19 +1,13 @@
 -- A lent table: its lengths are the first ten numbers or ten of 0, and the column that its parts give is the list's own.
-use Prim.Native.Nat.{ℕ, _+_, _<_, _≤_}
-use mathlib.Core.Path.{_≡_, sym, ap, _∙_}
-use mathlib.Core.List.{List, [], _++_, append-nil}
-use mathlib.Core.Logic.{_⊎_, inl, inr}
+use Rattle.laws.proofs.{ℕ, _+_, _<_, _≤_, _≡_, sym, ap, _∙_, List, [], _++_, append-nil, _⊎_, inl, inr, arith, le-leb, lt-leb, length, getD, set, take, drop, replicate, length-take, drop-of-length-le, sets, drop-drop, getD-take}
 use native.Mathlib.Nat.{zero-add}
-use native.Mathlib.Omega.{arith}
-use borrow.Author.Tests.{le-leb, lt-leb}
-use lib.ListN.{length, getD, set, take, drop, replicate, length-take, drop-of-length-le, List·getD-eq-default}
-use lib.Seq.{sets, drop-drop, getD-take}
-use Rattle.laws.specs.Lists.{sumOf}
+use lib.ListN.{List·getD-eq-default}
+use Rattle.laws.specs.{sumOf}
 use Rattle.laws.proofs.Order.{below-or-not}
 use Rattle.laws.proofs.Stores.{store-goes-on, stored-in-front}
-use Rattle.table_parts.specs.Parts.{cellsOf, lengthOf}
+use Rattle.table_parts.specs.{cellsOf, lengthOf}
 use Rattle.table_parts.proofs.Parts.{part-past}
-use Rattle.table_lent.specs.Lent.{ownColumn, lentLengths, lentColumn}
+use Rattle.table_lent.specs.{ownColumn, lentLengths, lentColumn}
 
 module _ (table : List ℕ) where
   pub no-lengths : length table < 10 → replicate 10 0 ≡ lentLengths table

@@ -1,11 +1,6 @@
 -- A participant's table as it is lent, and its columns.
-use Prim.Native.Nat.{ℕ, _+_}
-use mathlib.Core.Bool.{cond}
-use mathlib.Core.List.{List}
-use lib.Dec.{leb}
-use lib.ListN.{length, getD, take, drop, replicate}
-use Rattle.laws.specs.Lists.{sumOf}
-use Rattle.table_parts.specs.Parts.{columnCount, lengthsOf, lengthOf}
+use Rattle.laws.specs.{ℕ, _+_, cond, List, leb, length, getD, take, drop, replicate, sumOf}
+use Rattle.table_parts.specs.{columnCount, lengthsOf, lengthOf}
 
 -- the cells of a column by its number; what is no column has none
 unfoldable pub ownColumn : List ℕ → ℕ → List ℕ

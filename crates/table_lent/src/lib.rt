@@ -1,7 +1,7 @@
 // A participant's table as it is lent, its cells together with the length of each column, and a column's cells out of it.
 ghost use mathlib.Core.Path.{_≡_};
-ghost use Rattle.table_parts.specs.Parts.{cellsOf};
-ghost use Rattle.table_lent.specs.Lent.{lentColumn, lentLengths, ownColumn};
+ghost use Rattle.table_parts.specs.{cellsOf};
+ghost use Rattle.table_lent.specs.{lentColumn, lentLengths, ownColumn};
 use table_parts::COLUMNS;
 
 pub struct LentTable<'a> {

@@ -1,13 +1,9 @@
 -- A column's length is among the first ten numbers, and the lengths before it are summed a number at a time.
-use Prim.Native.Nat.{ℕ, _+_, _<_, _≤_}
-use mathlib.Core.Path.{_≡_, sym}
-use mathlib.Core.List.{List}
-use native.Mathlib.Omega.{arith}
-use lib.ListN.{length, getD, take, drop, length-take, List·getD-eq-default}
-use lib.Seq.{getD-take}
-use Rattle.laws.specs.Lists.{sumOf}
+use Rattle.laws.proofs.{ℕ, _+_, _<_, _≤_, _≡_, sym, List, arith, length, getD, take, drop, length-take, getD-take}
+use lib.ListN.{List·getD-eq-default}
+use Rattle.laws.specs.{sumOf}
 use Rattle.laws.proofs.Lists.{sum-goes-on}
-use Rattle.table_parts.specs.Parts.{lengthOf}
+use Rattle.table_parts.specs.{lengthOf}
 
 module _ (table : List ℕ) (number : ℕ) where
   -- what is no column has no length

@@ -1,10 +1,6 @@
 -- A part that runs past the end of a list of numbers is what is there.
-use Prim.Native.Nat.{ℕ, _-_, _≤_}
-use mathlib.Core.Path.{_≡_, sym, _∙_}
-use mathlib.Core.List.{List, []}
-use native.Mathlib.Omega.{arith}
-use lib.ListN.{length, take, drop, length-drop, drop-of-length-le}
-use lib.Seq.{take-all, take-nil}
+use Rattle.laws.proofs.{ℕ, _-_, _≤_, _≡_, sym, _∙_, List, [], arith, length, take, drop, length-drop, drop-of-length-le, take-all}
+use lib.Seq.{take-nil}
 
 pub part-past : (numbers : List ℕ) (start len : ℕ) → length numbers ≤ start → [] ≡ take len (drop start numbers)
 part-past numbers start len h = rw (drop-of-length-le numbers h) (sym (take-nil len))

@@ -1,8 +1,6 @@
 -- The parts of a participant's table. "A participant's table is lent together with the length of each column: a list of 16-bit numbers, first ten
 -- lengths .., for stock of P, D, S, H, N, then residue in that order; then the cells in tenths, .. columns joined, no remainder."
-use Prim.Native.Nat.{ℕ}
-use mathlib.Core.List.{List}
-use lib.ListN.{getD, take, drop}
+use Rattle.laws.specs.{ℕ, List, getD, take, drop}
 
 abbrev pub columnCount : ℕ
 columnCount = 10

@@ -1,8 +1,8 @@
 // The parts of a participant's table: any part of a list of numbers, and the lengths that the table begins with.
 ghost use mathlib.Core.Path.{_≡_};
 ghost use lib.ListN.{take, drop};
-ghost use Rattle.laws.specs.Lists.{sumOf};
-ghost use Rattle.table_parts.specs.Parts.{lengthOf, lengthsOf};
+ghost use Rattle.laws.specs.{sumOf};
+ghost use Rattle.table_parts.specs.{lengthOf, lengthsOf};
 
 pub const COLUMNS: usize = 10;
 

@@ -1,16 +1,9 @@
 -- The digits of a number: what is known of them without unfolding the definition again.
-use Prim.Native.Nat.{ℕ, zero, suc, _+_, _*_, _/_, _%_, _^_, _≤_, _<_}
-use mathlib.Core.Path.{_≡_, refl, ap, _∙_}
-use mathlib.Core.Bool.{cond}
-use mathlib.Core.List.{List, [], _∷_, _++_}
-use mathlib.Core.Logic.{⊎-elim}
-use native.Mathlib.Omega.{arith}
+use Rattle.laws.proofs.{ℕ, zero, suc, _+_, _*_, _/_, _%_, _^_, _≤_, _<_, _≡_, refl, ap, _∙_, cond, List, [], _∷_, _++_, ⊎-elim, arith, lt-ltb, le-ltb, ltb, length, getD, length-append}
 use native.Mathlib.Nat.{pow-suc}
-use borrow.Author.Tests.{lt-ltb, le-ltb}
-use lib.Dec.{ltb}
-use lib.ListN.{length, getD, List·getD-append, length-append}
+use lib.ListN.{List·getD-append}
 use Rattle.laws.proofs.Order.{below-or-not}
-use Rattle.text.specs.Digits.{digitsIn, digits}
+use Rattle.text.specs.{digitsIn, digits}
 
 -- how many steps there are does not matter, if they are enough
 steps : (f g n : ℕ) → n ≤ f → n ≤ g → digitsIn f n ≡ digitsIn g n

@@ -1,15 +1,6 @@
 -- Fields: joined fields are split again, what is split is joined again, and a scan for a field's end finds the first field and the rest.
-use Prim.Native.Nat.{ℕ, suc, _+_, _-_, _≤_, _<_}
-use mathlib.Core.Path.{_≡_, refl, sym, ap, _∙_}
-use mathlib.Core.Bool.{Bool, true, false, cond}
-use mathlib.Core.List.{List, [], _∷_, _++_}
-use native.Mathlib.Omega.{arith}
-use native.Mathlib.Numerals.{add-one}
-use lib.Dec.{eqb}
-use lib.ListN.{length, getD, take, drop, length-drop, drop-of-length-le}
-use lib.Seq.{drop-cons, drop-drop}
-use borrow.Author.Tests.{eq-eqb, ne-eqb, eqb-true}
-use Rattle.text.specs.Fields.{extend, split, width, joinAfter, join, Plain, AllPlain}
+use Rattle.laws.proofs.{ℕ, suc, _+_, _-_, _≤_, _<_, _≡_, refl, sym, ap, _∙_, Bool, true, false, cond, List, [], _∷_, _++_, arith, add-one, eqb, length, getD, take, drop, length-drop, drop-of-length-le, drop-cons, drop-drop, eq-eqb, ne-eqb, eqb-true}
+use Rattle.text.specs.{extend, split, width, joinAfter, join, Plain, AllPlain}
 
 -- ---- the round trips
 

@@ -1,14 +1,9 @@
 -- Writes: two of them, the second where the first ends, are one. A write that fits leaves the bytes, and all else as it was.
-use Prim.Native.Nat.{ℕ, _+_, _≤_, min}
-use mathlib.Core.Path.{_≡_, sym, ap, subst, _∙_}
-use mathlib.Core.List.{List, _++_, append-assoc}
-use mathlib.Core.Logic.{⊎-elim}
-use native.Mathlib.Omega.{arith}
-use lib.ListN.{length, take, drop, length-append}
-use lib.Seq.{sets, length-sets, sets-eq}
+use Rattle.laws.proofs.{ℕ, _+_, _≤_, min, _≡_, sym, ap, subst, _∙_, List, _++_, append-assoc, ⊎-elim, arith, length, take, drop, length-append, sets}
+use lib.Seq.{length-sets, sets-eq}
 use Rattle.laws.proofs.Order.{below-or-not}
 use Rattle.laws.proofs.Stores.{sets-append, sets-out}
-use Rattle.text.specs.Writing.{Wrote, greatest}
+use Rattle.text.specs.{Wrote, greatest}
 
 -- past the greatest place there is nothing to store to
 then-bytes : (l : List ℕ) (at p : ℕ) (xs ys : List ℕ) → length l ≤ greatest → p ≡ min (at + length xs) greatest → sets (sets l at xs) p ys ≡ sets l at (xs ++ ys)

@@ -1,8 +1,5 @@
 -- "numbers are decimal without leading zeros": the digits of a number, the most significant first, each its byte.
-use Prim.Native.Nat.{ℕ, zero, suc, _+_, _/_, _%_}
-use mathlib.Core.Bool.{cond}
-use mathlib.Core.List.{List, [], _∷_, _++_}
-use lib.Dec.{ltb}
+use Rattle.laws.specs.{ℕ, zero, suc, _+_, _/_, _%_, cond, List, [], _∷_, _++_, ltb}
 
 -- in at most as many steps as the first number says
 unfoldable pub digitsIn : ℕ → ℕ → List ℕ

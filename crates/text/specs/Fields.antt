@@ -1,10 +1,5 @@
 -- "Fields stand in fixed order parted by commas, no quoting"; a comma is byte 44.
-use Prim.Native.Nat.{ℕ, zero, suc}
-use mathlib.Core.Bool.{cond}
-use mathlib.Core.Path.{_≡_}
-use mathlib.Core.List.{List, [], _∷_, _++_}
-use lib.Dec.{eqb}
-use lib.ListN.{getD}
+use Rattle.laws.specs.{ℕ, zero, suc, cond, _≡_, List, [], _∷_, _++_, eqb, getD}
 
 -- a byte in front of the first field
 unfoldable pub extend : ℕ → List (List ℕ) → List (List ℕ)

@@ -1,8 +1,5 @@
 -- What a write leaves. One statement for every writer.
-use Prim.Native.Nat.{ℕ, _+_, _≤_, min}
-use mathlib.Core.Path.{_≡_}
-use mathlib.Core.List.{List}
-use lib.ListN.{length}
+use Rattle.laws.specs.{ℕ, _+_, _≤_, min, _≡_, List, length}
 use lib.Seq.{sets}
 
 -- the greatest place

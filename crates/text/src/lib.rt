@@ -1,7 +1,6 @@
 // Bytes written into a lent buffer. A byte past the buffer's end is not stored and the place moves on all the same, so that writing measures.
 ghost use mathlib.Core.List.{_∷_, []};
-ghost use Rattle.text.specs.Digits.{digits};
-ghost use Rattle.text.specs.Writing.{Wrote};
+ghost use Rattle.text.specs.{digits, Wrote};
 
 const GREATEST: usize = 18446744073709551615;
 

@@ -1,18 +1,7 @@
 -- Numbers with a point: what a scan for the point finds at an index, zeros filled in, and what follows the whole number.
-use Prim.Native.Nat.{ℕ, suc, _+_, _-_, _≤_, _<_}
-use mathlib.Core.Path.{_≡_, sym, ap, _∙_}
-use mathlib.Core.Bool.{Bool, true, false, cond}
-use mathlib.Core.List.{List, [], _∷_}
-use native.Mathlib.Omega.{arith}
-use native.Mathlib.Numerals.{add-one}
-use borrow.Author.Tests.{lt-ltb, le-ltb, eq-eqb, ne-eqb}
-use lib.Dec.{eqb}
-use lib.ListN.{length, getD, take, drop, length-drop, drop-of-length-le, replicate}
-use lib.Seq.{drop-cons, take-all}
-use Rattle.text_number.specs.declared.Number.{Number}
-use Rattle.text_number.specs.declared.Number.the-variants.{Malformed}
-use Rattle.text_number.specs.Numbers.{append, more, numberIn}
-use Rattle.text_decimal.specs.Decimals.{wholes, withDecimals, decimalIn, hectaresIn}
+use Rattle.laws.proofs.{ℕ, suc, _+_, _-_, _≤_, _<_, _≡_, sym, ap, _∙_, Bool, true, false, cond, List, [], _∷_, arith, add-one, lt-ltb, le-ltb, eq-eqb, ne-eqb, eqb, length, getD, take, drop, length-drop, drop-of-length-le, replicate, drop-cons, take-all}
+use Rattle.text_number.specs.{Number, append, more, numberIn}
+use Rattle.text_decimal.specs.{wholes, withDecimals, decimalIn, hectaresIn}
 
 module _ (n : Number) (left : ℕ) where
   pub zeros-next : 0 < left → more (append n 48) (replicate (left - 1) 48) ≡ more n (replicate left 48)
@@ -71,11 +60,11 @@ module _ (k : ℕ) (s : List ℕ) (p : ℕ) (w : Number) (e : p ≡ wholes s) (e
         let f : drop (p + 1) s ≡ behind = sym (take-all (length s - (p + 1)) (drop (p + 1) s) (simp length-drop (omega arith))) in
         whole ∙ ap (withDecimals k w) (drop-cons s p 0 h ∙ ap (λ (t : List ℕ). getD s p 0 ∷ t) (ap (λ (m : ℕ). drop m s) (sym (add-one p)) ∙ f))
 
-    pub bare-point : length behind ≡ 0 → Malformed ≡ decimalIn k s
+    pub bare-point : length behind ≡ 0 → Number.Malformed ≡ decimalIn k s
     unfolding withDecimals
     bare-point z = sym (followed ∙ simp (eq-eqb (length behind) 0 z))
 
-    pub too-many : (length behind ≡ 0 → ⊥) → k < length behind → Malformed ≡ decimalIn k s
+    pub too-many : (length behind ≡ 0 → ⊥) → k < length behind → Number.Malformed ≡ decimalIn k s
     unfolding withDecimals
     too-many z l = sym (followed ∙ simp (ne-eqb (length behind) 0 z, lt-ltb k (length behind) l))
 
@@ -83,7 +72,7 @@ module _ (k : ℕ) (s : List ℕ) (p : ℕ) (w : Number) (e : p ≡ wholes s) (e
     unfolding withDecimals
     with-decimals z l = sym (followed ∙ simp (ne-eqb (length behind) 0 z, le-ltb k (length behind) l))
 
-pub seven-digits : (s : List ℕ) → 6 < wholes s → Malformed ≡ hectaresIn s
+pub seven-digits : (s : List ℕ) → 6 < wholes s → Number.Malformed ≡ hectaresIn s
 unfolding hectaresIn
 seven-digits s h = simp (lt-ltb 6 (wholes s) h)
 

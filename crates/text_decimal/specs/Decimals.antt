@@ -1,12 +1,6 @@
 -- Numbers with a point, byte 46. With k decimals, zeros filled in, and without its point such a number is a whole one in the unit of the last decimal.
-use Prim.Native.Nat.{ℕ, zero, suc, _-_}
-use mathlib.Core.Bool.{cond}
-use mathlib.Core.List.{List, [], _∷_}
-use lib.Dec.{ltb, eqb}
-use lib.ListN.{length, take, drop, replicate}
-use Rattle.text_number.specs.declared.Number.{Number}
-use Rattle.text_number.specs.declared.Number.the-variants.{Malformed}
-use Rattle.text_number.specs.Numbers.{more, numberIn}
+use Rattle.laws.specs.{ℕ, zero, suc, _-_, cond, List, [], _∷_, ltb, eqb, length, take, drop, replicate}
+use Rattle.text_number.specs.{Number, more, numberIn}
 
 -- how many bytes stand before the first point, or in all
 unfoldable pub wholes : List ℕ → ℕ
@@ -17,8 +11,8 @@ wholes (b ∷ bs) = cond (eqb b 46) zero (suc (wholes bs))
 unfoldable pub withDecimals : ℕ → Number → List ℕ → Number
 withDecimals k n [] = more n (replicate k 48)
 withDecimals k n (point ∷ ds) =
-    cond (eqb (length ds) 0) Malformed
-    (cond (ltb k (length ds)) Malformed
+    cond (eqb (length ds) 0) Number.Malformed
+    (cond (ltb k (length ds)) Number.Malformed
     (more (more n ds) (replicate (k - length ds) 48)))
 
 unfoldable pub decimalIn : ℕ → List ℕ → Number
@@ -26,7 +20,7 @@ decimalIn k s = withDecimals k (numberIn (take (wholes s) s)) (drop (wholes s) s
 
 -- "hectares up to six digits, then optionally a point and one to four digits", in ten-thousandths
 unfoldable pub hectaresIn : List ℕ → Number
-hectaresIn s = cond (ltb 6 (wholes s)) Malformed (decimalIn 4 s)
+hectaresIn s = cond (ltb 6 (wholes s)) Number.Malformed (decimalIn 4 s)
 
 -- "each a number with at most one decimal", in tenths
 abbrev pub cellIn : List ℕ → Number

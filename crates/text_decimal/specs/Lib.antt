@@ -1,1 +1,3 @@
 pub mod Decimals
+pub use Decimals.{cellIn}
+unfoldable pub use Decimals.{wholes, withDecimals, decimalIn, hectaresIn}

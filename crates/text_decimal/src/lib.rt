@@ -1,8 +1,8 @@
 // Numbers with a point, read from bytes: hectares and table cells.
 ghost use mathlib.Core.Path.{_≡_};
 ghost use lib.ListN.{replicate};
-ghost use Rattle.text_number.specs.Numbers.{more};
-ghost use Rattle.text_decimal.specs.Decimals.{wholes, decimalIn, hectaresIn, cellIn};
+ghost use Rattle.text_number.specs.{more};
+ghost use Rattle.text_decimal.specs.{wholes, decimalIn, hectaresIn, cellIn};
 use text_number::Number;
 
 // The place of the first point, or the end.

@@ -1,21 +1,11 @@
 -- The places of fields: what a turn of the scan adds to them, and that the part of a line that they give is the field.
-use Prim.Native.Nat.{ℕ, zero, suc, _+_, _-_, _≤_, _<_}
-use mathlib.Core.Path.{_≡_, refl, sym, ap, _∙_}
-use mathlib.Core.Bool.{Bool, true, false, cond}
-use mathlib.Core.List.{List, [], _∷_}
-use mathlib.Core.Logic.{⊎-elim}
-use native.Mathlib.Omega.{arith}
-use native.Mathlib.Numerals.{add-one}
-use borrow.Author.Tests.{lt-ltb, le-ltb}
-use lib.Dec.{eqb}
-use lib.ListN.{length, getD, take, drop, set, replicate, length-take, length-drop, List·getD-eq-default, getD-replicate}
-use lib.Seq.{sets}
+use Rattle.laws.proofs.{ℕ, zero, suc, _+_, _-_, _≤_, _<_, _≡_, refl, sym, ap, _∙_, Bool, true, false, cond, List, [], _∷_, ⊎-elim, arith, add-one, lt-ltb, le-ltb, eqb, length, getD, take, drop, set, replicate, length-take, length-drop, sets}
+use lib.ListN.{List·getD-eq-default, getD-replicate}
 use Rattle.laws.proofs.Order.{below-or-not}
 use Rattle.laws.proofs.Stores.{getD-sets}
-use Rattle.text.specs.Fields.{width, split, fieldAt}
+use Rattle.text.specs.{width, split, fieldAt}
 use Rattle.text.proofs.Fields.{field-last, field-comma}
-use Rattle.text_field.specs.declared.Places.{Places}
-use Rattle.text_field.specs.Places.{startsFrom, placesOf, between, part}
+use Rattle.text_field.specs.{Places, startsFrom, placesOf, between, part}
 
 -- ---- a part of a line, by the tests on its ends
 

@@ -2,8 +2,8 @@
 ghost use mathlib.Core.Path.{_≡_};
 ghost use Prim.Native.Nat.{_+_};
 ghost use lib.ListN.{set, drop};
-ghost use Rattle.text.specs.Fields.{split, width};
-ghost use Rattle.text_field.specs.Places.{placesOf, part};
+ghost use Rattle.text.specs.{split, width};
+ghost use Rattle.text_field.specs.{placesOf, part};
 
 // How many fields there are, and where each of the first six starts and the one behind it does.
 // Behind the last field another would start past the line's end.

@@ -1,24 +1,15 @@
 -- Numbers, byte by byte: what a byte more makes of a number, and what the first bytes say of the rest.
-use Prim.Native.Nat.{ℕ, _+_, _-_, _≤_, _<_}
-use mathlib.Core.Path.{_≡_, refl, sym, ap, _∙_}
-use mathlib.Core.List.{List, [], _∷_}
-use native.Mathlib.Omega.{arith}
-use native.Mathlib.Numerals.{add-one}
-use borrow.Author.Tests.{le-leb, lt-leb, eq-eqb, ne-eqb}
-use lib.ListN.{length, getD, drop, drop-of-length-le}
-use lib.Seq.{drop-cons}
-use Rattle.text_number.specs.declared.Number.{Number}
-use Rattle.text_number.specs.declared.Number.the-variants.{Value, Malformed}
-use Rattle.text_number.specs.Numbers.{appendDigit, append, more, headed, numberIn}
+use Rattle.laws.proofs.{ℕ, _+_, _-_, _≤_, _<_, _≡_, refl, sym, ap, _∙_, List, [], _∷_, arith, add-one, le-leb, lt-leb, eq-eqb, ne-eqb, length, getD, drop, drop-of-length-le, drop-cons}
+use Rattle.text_number.specs.{Number, appendDigit, append, more, headed, numberIn}
 
 -- ---- one byte
 
 module _ (n : Number) (b : ℕ) where
-  pub append-low : b < 48 → Malformed ≡ append n b
+  pub append-low : b < 48 → Number.Malformed ≡ append n b
   unfolding append
   append-low h = simp (lt-leb 48 b h)
 
-  pub append-high : 57 < b → Malformed ≡ append n b
+  pub append-high : 57 < b → Number.Malformed ≡ append n b
   unfolding append
   append-high h = simp (le-leb 48 b (omega arith), lt-leb b 57 h)
 
@@ -41,24 +32,24 @@ module _ (n : Number) (s : List ℕ) (i : ℕ) where
 
 -- ---- a number, by how many bytes there are
 
-pub none-read : (s : List ℕ) → length s ≡ 0 → Malformed ≡ numberIn s
+pub none-read : (s : List ℕ) → length s ≡ 0 → Number.Malformed ≡ numberIn s
 unfolding numberIn headed
 none-read [] h = refl
 none-read (b ∷ s) h = absurd (omega arith)
 
-pub one-read : (s : List ℕ) → length s ≡ 1 → more (Value 0) s ≡ numberIn s
+pub one-read : (s : List ℕ) → length s ≡ 1 → more (Number.Value 0) s ≡ numberIn s
 unfolding numberIn headed
 one-read [] h = absurd (omega arith)
 one-read (b ∷ []) h = refl
 one-read (b ∷ d ∷ s) h = absurd (omega arith)
 
-pub zero-in-front : (s : List ℕ) → 1 < length s → getD s 0 0 ≡ 48 → Malformed ≡ numberIn s
+pub zero-in-front : (s : List ℕ) → 1 < length s → getD s 0 0 ≡ 48 → Number.Malformed ≡ numberIn s
 unfolding numberIn headed
 zero-in-front [] h z = absurd (omega arith)
 zero-in-front (b ∷ []) h z = absurd (omega arith)
 zero-in-front (b ∷ d ∷ s) h z = simp (eq-eqb b 48 z)
 
-pub several-read : (s : List ℕ) → 1 < length s → (getD s 0 0 ≡ 48 → ⊥) → more (Value 0) s ≡ numberIn s
+pub several-read : (s : List ℕ) → 1 < length s → (getD s 0 0 ≡ 48 → ⊥) → more (Number.Value 0) s ≡ numberIn s
 unfolding numberIn headed
 several-read [] h z = absurd (omega arith)
 several-read (b ∷ []) h z = absurd (omega arith)

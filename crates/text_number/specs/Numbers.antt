@@ -1,10 +1,6 @@
 -- "numbers are decimal without leading zeros": at least one digit, and no limit to how many. A digit is its byte, 48 to 57.
-use Prim.Native.Nat.{ℕ, _+_, _*_, _-_}
-use mathlib.Core.Bool.{Bool, true, false, cond, not, _&&_}
-use mathlib.Core.List.{List, [], _∷_}
-use lib.Dec.{ltb, leb, eqb}
+use Rattle.laws.specs.{ℕ, _+_, _*_, _-_, Bool, true, false, cond, not, _&&_, List, [], _∷_, ltb, leb, eqb}
 use Rattle.text_number.specs.declared.Number.{Number}
-use Rattle.text_number.specs.declared.Number.the-variants.{Value, Large, Malformed}
 
 -- what is below has room for one digit more
 abbrev pub room : ℕ
@@ -12,13 +8,13 @@ room = 100000000000000
 
 -- a number with one digit more; above fifteen digits they are all one, since no range goes so far
 abbrev pub appendDigit : Number → ℕ → Number
-appendDigit (Value v) d = cond (ltb v room) (Value (v * 10 + d)) Large
-appendDigit Large d = Large
-appendDigit Malformed d = Malformed
+appendDigit (Number.Value v) d = cond (ltb v room) (Number.Value (v * 10 + d)) Number.Large
+appendDigit Number.Large d = Number.Large
+appendDigit Number.Malformed d = Number.Malformed
 
 -- a number with one byte more
 unfoldable pub append : Number → ℕ → Number
-append n b = cond (leb 48 b && leb b 57) (appendDigit n (b - 48)) Malformed
+append n b = cond (leb 48 b && leb b 57) (appendDigit n (b - 48)) Number.Malformed
 
 unfoldable pub more : Number → List ℕ → Number
 more n [] = n
@@ -31,4 +27,4 @@ headed (b ∷ []) = true
 headed (b ∷ c ∷ bs) = not (eqb b 48)
 
 unfoldable pub numberIn : List ℕ → Number
-numberIn s = cond (headed s) (more (Value 0) s) Malformed
+numberIn s = cond (headed s) (more (Number.Value 0) s) Number.Malformed

@@ -1,6 +1,6 @@
 // Whole numbers of any length, read from bytes.
 ghost use mathlib.Core.Path.{_≡_};
-ghost use Rattle.text_number.specs.Numbers.{append, more, numberIn};
+ghost use Rattle.text_number.specs.{append, more, numberIn};
 
 // What bytes stand for; a number of more than fifteen digits has no value here.
 pub enum Number {

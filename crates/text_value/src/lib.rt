@@ -1,6 +1,6 @@
 // What a number that was read says of ranges: whether it is in one, and its value in so many bits.
 ghost use mathlib.Core.Path.{_≡_};
-ghost use Rattle.text_value.specs.Ranges.{malformed, outside, valueOf, fitted};
+ghost use Rattle.text_value.specs.{malformed, outside, valueOf, fitted};
 use text_number::Number;
 
 pub fn is_malformed(number: Number) -> bool

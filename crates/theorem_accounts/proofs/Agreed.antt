@@ -1,25 +1,11 @@
 -- The engine and the ledger agree under a number: neither has anything under it and nothing was reported, or an area and a row that are alike.
 -- A refused step leaves this as it is, and so do an area opened and an area changed on both sides.
-use Prim.Native.Nat.{ℕ, _+_, _<_}
-use mathlib.Core.Bool.{Bool, true, false, cond}
-use mathlib.Core.Path.{_≡_, refl, sym, ap, _∙_}
-use mathlib.Core.List.{List, [], _∷_, _++_}
+use Rattle.laws.proofs.{ℕ, _+_, _<_, Bool, true, false, cond, _≡_, refl, sym, ap, _∙_, List, [], _∷_, _++_, arith, add-one, eqb-true, eqb-false, eqb, length, take, getD, set, length-set}
 use mathlib.Core.Option.{Option, none, some}
-use native.Mathlib.Omega.{arith}
-use native.Mathlib.Numerals.{add-one}
-use borrow.Author.Tests.{eqb-true, eqb-false}
-use lib.Dec.{eqb}
-use lib.ListN.{length, take, getD, set, length-set}
 use lib.Seq.{take-suc-set}
-use Rattle.holding.specs.declared.Area.{Area}
-use Rattle.holding.specs.declared.Holding.{Holding}
-use Rattle.holding.specs.declared.Found.the-variants.{At}
-use Rattle.holding.specs.Holding.{mostAreas, areasOf, emptyArea, openedArea}
-use Rattle.holding.specs.Find.{findArea}
-use Rattle.theorem_ledger.specs.Keyed.{change}
-use Rattle.theorem_ledger.specs.Ledger.{Row, rowNumber, opened}
-use Rattle.theorem_accounts.specs.Reports.{Reported, nothingReported}
-use Rattle.theorem_accounts.specs.Feeding.{under}
+use Rattle.holding.specs.{Area, Holding, mostAreas, areasOf, emptyArea, openedArea, findArea, Found}
+use Rattle.theorem_ledger.specs.{change, Row, rowNumber, opened}
+use Rattle.theorem_accounts.specs.{Reported, nothingReported, under}
 use Rattle.theorem_accounts.proofs.Keyed.{under-bears, under-more, under-last, under-changed, under-other, standing-here, standing-changed}
 use Rattle.theorem_accounts.proofs.Alike.{Alike, opened-alike}
 
@@ -72,7 +58,7 @@ module _ (n : ℕ) (holding : Holding) (rows : List Row) (reported : Reported) (
           (under-more areaNumber n (areasOf holding) (openedArea m year) area u) (under-more rowNumber n rows (opened m year) row v) refl k
 
   -- an area changed at the place where its number was found
-  module _ (i : ℕ) (found : findArea holding m ≡ At i) (area : Area) (f : Row → Row) (after : Reported) where
+  module _ (i : ℕ) (found : findArea holding m ≡ Found.At i) (area : Area) (f : Row → Row) (after : Reported) where
     abbrev before : Area
     before = getD (holding .areas) i emptyArea
 

@@ -1,35 +1,20 @@
 -- What an area is to its row in the ledger and to what was reported for it, and that each step of the area keeps this.
-use Prim.Native.Nat.{ℕ, suc, _+_, _-_, _<_}
-use mathlib.Core.Bool.{Bool, true, false}
-use mathlib.Core.Path.{_≡_, refl, sym, ap, _∙_}
-use mathlib.Core.List.{List, [], _∷_, _++_}
-use native.Mathlib.Omega.{arith}
-use native.Mathlib.Numerals.{add-one}
+use Rattle.laws.proofs.{ℕ, suc, _+_, _-_, _<_, Bool, true, false, _≡_, refl, sym, ap, _∙_, List, [], _∷_, _++_, arith, add-one, length, take, getD, set, length-append, length-set}
 use lib.IntN.{ℤ, pos, _+ℤ_, _-ℤ_}
-use lib.ListN.{length, take, getD, set, length-append, length-set}
 use lib.Seq.{take-suc-set}
-use Rattle.laws.specs.Elements.{sumBy}
-use Rattle.units.specs.declared.Change.{Change}
-use Rattle.units.specs.Tonnes.{value, nearestTonne}
+use Rattle.laws.specs.{sumBy}
+use Rattle.units.specs.{Change, value, nearestTonne}
 use Rattle.units.proofs.Rounding.{change-value}
-use Rattle.schedules.specs.Schedules.{schedule6}
-use Rattle.stocks.specs.Stocks.{subStock, areaStock}
-use Rattle.holding.specs.declared.Sub.{Sub}
-use Rattle.holding.specs.declared.Area.{Area}
-use Rattle.holding.specs.declared.Found.{Found}
-use Rattle.holding.specs.declared.Found.the-variants.{At, Nowhere}
-use Rattle.holding.specs.Holding.{mostSubs, subsOf, openedArea, emptySub}
-use Rattle.holding.specs.Find.{findSub}
-use Rattle.holding_look.specs.Standing.{known, subAt, balanceOf, withSub}
-use Rattle.step_add.specs.Adding.{addedArea}
-use Rattle.step_file.specs.Filing.{receivedOf, dueOf, filedArea}
+use Rattle.schedules.specs.{schedule6}
+use Rattle.stocks.specs.{subStock, areaStock}
+use Rattle.holding.specs.{Sub, Area, Found, mostSubs, subsOf, openedArea, emptySub, findSub}
+use Rattle.holding_look.specs.{known, subAt, balanceOf, withSub}
+use Rattle.step_add.specs.{addedArea}
+use Rattle.step_file.specs.{receivedOf, dueOf, filedArea}
 use Rattle.step_file.specs.Filing as Filing
-use Rattle.step_withdraw.specs.Withdrawing.{withdrawnArea}
-use Rattle.theorem_ledger.specs.Keyed.{change}
-use Rattle.theorem_ledger.specs.Ledger.{Row, subNumber, opened, added, withSubs, returned, withdrawnRow, stockAfter, changeOf, lesser}
-use Rattle.theorem_accounts.specs.Reports.{Reported, nothingReported}
-use Rattle.theorem_accounts.specs.Running.{total, sumsFrom, lowest}
-use Rattle.theorem_accounts.specs.Accounts.{Shown}
+use Rattle.step_withdraw.specs.{withdrawnArea}
+use Rattle.theorem_ledger.specs.{change, Row, subNumber, opened, added, withSubs, returned, withdrawnRow, stockAfter, changeOf, lesser}
+use Rattle.theorem_accounts.specs.{Reported, nothingReported, total, sumsFrom, lowest, Shown}
 use Rattle.theorem_accounts.proofs.Keyed.{standing-changed}
 use Rattle.theorem_accounts.proofs.Running.{total-more, lowest-more}
 use Rattle.theorem_accounts.proofs.Units.{Near, near-start, near-added, near-more, Held, held-start, held-more, balance-is, balance-more, paid-more}
@@ -132,8 +117,8 @@ module _ (own : List ℕ) (area : Area) (reported : Reported) (row : Row) (alike
   pub sub-alike : (n year : ℕ) (f : Sub → Sub) (found : Found) → findSub area n ≡ found → known found ≡ true
       → Alike (withSub area found (f (subAt area found)) year) reported (withSubs (change subNumber n f) row)
   unfolding withSub findSub subAt
-  sub-alike n year f Nowhere e k = let z : _≡_ {A = ℕ} 0 1 = cc in absurd (omega arith)
-  sub-alike n year f (At i) e k = record {
+  sub-alike n year f Found.Nowhere e k = let z : _≡_ {A = ℕ} 0 1 = cc in absurd (omega arith)
+  sub-alike n year f (Found.At i) e k = record {
     shown = record {
       number = same .number;
       opening = same .opening;

@@ -1,47 +1,27 @@
 -- A step reports for an area just the change that the ledger gives: one if it is an accepted return of the area, whose stock and sub-areas
 -- are the row's, and otherwise none.
-use Prim.Native.Nat.{ℕ}
-use mathlib.Core.Bool.{Bool, true, false, cond, _&&_}
-use mathlib.Core.Path.{_≡_, refl, sym, ap, _∙_}
-use mathlib.Core.List.{List, [], _∷_, _++_, append-nil}
+use Rattle.laws.proofs.{ℕ, Bool, true, false, cond, _&&_, _≡_, refl, sym, ap, _∙_, List, [], _∷_, _++_, append-nil, arith, eqb-true, eqb, length}
 use mathlib.Core.Option.{Option, none, some}
-use native.Mathlib.Omega.{arith}
-use borrow.Author.Tests.{eqb-true}
-use lib.Dec.{eqb}
 use lib.IntN.{ℤ}
-use lib.ListN.{length}
-use Rattle.refusals.specs.declared.Refusal.the-variants.{TableColumn}
-use Rattle.refusals.specs.declared.Verdict.{Verdict}
-use Rattle.refusals.specs.declared.Verdict.the-variants.{Clear as Accepted, Turned}
-use Rattle.refusals.specs.Refusals.{smallest}
-use Rattle.refusals.proofs.Laws.{NoneApplies, none-applies}
-use Rattle.units.specs.Tonnes.{value}
-use Rattle.schedules.specs.Schedules.{schedule6}
-use Rattle.table.specs.Participant.{isTable}
-use Rattle.line_entry.specs.declared.Entry.{Entry}
-use Rattle.line_entry.specs.declared.Entry.the-variants.{Open, Add, Clear, Plant, File, Withdraw, Column}
-use Rattle.holding.specs.declared.Area.{Area}
-use Rattle.holding.specs.declared.Holding.{Holding}
-use Rattle.holding.specs.declared.Found.{Found}
-use Rattle.holding.specs.declared.Found.the-variants.{At, Nowhere}
-use Rattle.holding.specs.Holding.{areasOf, emptyArea}
-use Rattle.holding.specs.Find.{findArea}
-use Rattle.holding_look.specs.Standing.{known, areaAt, balanceOf, lookedUp}
-use Rattle.step_outcome.specs.declared.Report.{Report}
-use Rattle.step_outcome.specs.declared.Report.the-variants.{Nothing, Withdrawal}
-use Rattle.step_outcome.specs.declared.Outcome.{Outcome}
-use Rattle.step_outcome.specs.Outcomes.{accepted, answered, turnedBack, areaCases}
-use Rattle.step_open.specs.Opening.{opened}
-use Rattle.step_add.specs.Adding.{added}
-use Rattle.step_clear.specs.Clearing.{cleared}
-use Rattle.step_plant.specs.Planting.{planted}
-use Rattle.step_file.specs.Filing.{fileCases, filedArea, returnOf, filed}
+use Rattle.refusals.specs.{Verdict, smallest, Refusal}
+use Rattle.refusals.proofs.Laws.{ruled-out}
+use Rattle.units.specs.{value}
+use Rattle.schedules.specs.{schedule6}
+use Rattle.table.specs.{isTable}
+use Rattle.line_entry.specs.{Act, AreaAct}
+use Rattle.holding.specs.{Area, Holding, Found, areasOf, emptyArea, findArea}
+use Rattle.holding_look.specs.{known, areaAt, balanceOf, lookedUp}
+use Rattle.step_outcome.specs.{Report, Outcome, accepted, answered, turnedBack, areaCases}
+use Rattle.step_open.specs.{opened}
+use Rattle.step_add.specs.{added}
+use Rattle.step_clear.specs.{cleared}
+use Rattle.step_plant.specs.{planted}
+use Rattle.step_file.specs.{fileCases, filedArea, returnOf, filed}
 use Rattle.step_file.specs.Filing as Filing
-use Rattle.step_withdraw.specs.Withdrawing.{withdrawn}
-use Rattle.step.specs.Steps.{columnTaken, applied, stepped}
-use Rattle.theorem_ledger.specs.Ledger.{Row, rowNumber}
-use Rattle.theorem_accounts.specs.Reports.{Reported, reportedWith}
-use Rattle.theorem_accounts.specs.Feeding.{under, isAccepted, changeBy, changeFor, isReturnOf}
+use Rattle.step_withdraw.specs.{withdrawn}
+use Rattle.step.specs.{acted, applied, stepped}
+use Rattle.theorem_ledger.specs.{Row, rowNumber}
+use Rattle.theorem_accounts.specs.{Reported, reportedWith, under, isAccepted, changeBy, changeFor, isReturn, isReturnOf}
 use Rattle.theorem_accounts.proofs.Keyed.{standing-here}
 use Rattle.theorem_accounts.proofs.Alike.{Alike, withReturn, withWithdrawal, change-alike}
 use Rattle.theorem_accounts.proofs.Agreed.{areaNumber, Matched, Agreed}
@@ -69,14 +49,14 @@ module _ (own : List ℕ) (n : ℕ) (holding : Holding) (rows : List Row) (repor
   quiet : (v : Verdict) (report : Report) (place : Found) (count : ℕ) (area : Area) → reportedWith n reported report .changes ≡ reported .changes
       → Tells (answered v (accepted report place count area)) [] false
   unfolding answered
-  quiet (Turned refusal) report place count area e = turned-tells refusal [] false
-  quiet Accepted report place count area e = (e ∙ sym (append-nil (reported .changes)), refl)
+  quiet (Verdict.Refused refusal) report place count area e = turned-tells refusal [] false
+  quiet Verdict.Accepted report place count area e = (e ∙ sym (append-nil (reported .changes)), refl)
 
-  quietly : reportedWith n reported Nothing .changes ≡ reported .changes
+  quietly : reportedWith n reported Report.Nothing .changes ≡ reported .changes
   unfolding reportedWith
   quietly = refl
 
-  withdrawn-quietly : (m due : ℕ) → reportedWith n reported (Withdrawal m due) .changes ≡ reported .changes
+  withdrawn-quietly : (m due : ℕ) → reportedWith n reported (Report.Withdrawal m due) .changes ≡ reported .changes
   unfolding reportedWith
   withdrawn-quietly m due = go (eqb m n)
     where
@@ -88,19 +68,19 @@ module _ (own : List ℕ) (n : ℕ) (holding : Holding) (rows : List Row) (repor
   module _ (agreed : Agreed n holding rows reported) where
     paired : (found : Found) → findArea holding n ≡ found → known found ≡ true → Paired n rows reported (areaAt holding found)
     unfolding findArea areaAt
-    paired Nowhere e k = let z : _≡_ {A = ℕ} 0 1 = cc in absurd (omega arith)
-    paired (At i) e k =
+    paired Found.Nowhere e k = let z : _≡_ {A = ℕ} 0 1 = cc in absurd (omega arith)
+    paired (Found.At i) e k =
         go (under areaNumber n (areasOf holding)) (standing-here areaNumber n (holding .areas) (holding .count) i emptyArea e)
         (under rowNumber n rows) refl (agreed .matched)
       where
-        go : (o : Option Area) → o ≡ some (areaAt holding (At i)) → (q : Option Row) → under rowNumber n rows ≡ q → Matched o q reported
-            → Paired n rows reported (areaAt holding (At i))
+        go : (o : Option Area) → o ≡ some (areaAt holding (Found.At i)) → (q : Option Row) → under rowNumber n rows ≡ q → Matched o q reported
+            → Paired n rows reported (areaAt holding (Found.At i))
         go none e q u k = let z : _≡_ {A = ℕ} 0 1 = cc in absurd (omega arith)
         go (some area) e none u k = absurd k
-        go (some area) e (some row) u k = record { row = row; listed = u; alike = rw (let s : areaAt holding (At i) ≡ area = cc in s) k }
+        go (some area) e (some row) u k = record { row = row; listed = u; alike = rw (let s : areaAt holding (Found.At i) ≡ area = cc in s) k }
 
     filed-tells : (m last : ℕ) → Tells (filed own schedule6 (lookedUp holding m) m last) (cond (eqb m n) (changeBy own last (under rowNumber n rows)) []) (eqb m n)
-    unfolding filed returnOf fileCases areaCases NoneApplies answered reportedWith
+    unfolding filed returnOf fileCases areaCases answered reportedWith
     filed-tells m last = go (smallest (fileCases m last found area)) refl
       where
         found : Found
@@ -129,23 +109,23 @@ module _ (own : List ℕ) (n : ℕ) (holding : Holding) (rows : List Row) (repor
         go : (v : Verdict) → smallest (fileCases m last found area) ≡ v
             → Tells (answered v (accepted (returnOf own schedule6 area m last) found (holding .count) next))
             (cond (eqb m n) (changeBy own last (under rowNumber n rows)) []) (eqb m n)
-        go (Turned refusal) v = turned-tells refusal (cond (eqb m n) (changeBy own last (under rowNumber n rows)) []) (eqb m n)
-        go Accepted v = at (eqb m n) refl (not-false (known found) (none-applies (fileCases m last found area) v .1 .1 .1 .0))
+        go (Verdict.Refused refusal) v = turned-tells refusal (cond (eqb m n) (changeBy own last (under rowNumber n rows)) []) (eqb m n)
+        go Verdict.Accepted v = at (eqb m n) refl (not-false (known found) (ruled-out (fileCases m last found area) v 3))
 
-    applied-tells : (e : Entry) → Tells (applied own schedule6 holding e) (changeFor own n rows e) (isReturnOf n e)
-    unfolding applied changeFor opened added cleared planted withdrawn columnTaken
-    applied-tells (Open area opening) = quiet _ Nothing _ _ _ quietly
-    applied-tells (Add area sub land forest year) = quiet _ Nothing _ _ _ quietly
-    applied-tells (Clear area sub year) = quiet _ Nothing _ _ _ quietly
-    applied-tells (Plant area sub forest year) = quiet _ Nothing _ _ _ quietly
-    applied-tells (File area last) = filed-tells area last
-    applied-tells (Withdraw area) = quiet _ (Withdrawal area _) _ _ _ (withdrawn-quietly area _)
-    applied-tells (Column column cells) = quiet _ Nothing _ _ _ quietly
+    acted-tells : (area : ℕ) (act : Act)
+        → Tells (acted own schedule6 (lookedUp holding area) area act) (changeFor own n rows area act) (isReturn act && eqb area n)
+    unfolding opened added cleared planted withdrawn
+    acted-tells area (Act.Open opening) = quiet _ Report.Nothing _ _ _ quietly
+    acted-tells area (Act.Add sub land forest year) = quiet _ Report.Nothing _ _ _ quietly
+    acted-tells area (Act.Clear sub year) = quiet _ Report.Nothing _ _ _ quietly
+    acted-tells area (Act.Plant sub forest year) = quiet _ Report.Nothing _ _ _ quietly
+    acted-tells area (Act.File last) = filed-tells area last
+    acted-tells area Act.Withdraw = quiet _ (Report.Withdrawal area _) _ _ _ (withdrawn-quietly area _)
 
-    pub entry-tells : (e : Entry) → Tells (stepped own holding e) (changeFor own n rows e) (isReturnOf n e)
-    unfolding stepped
+    pub entry-tells : (e : AreaAct) → Tells (stepped own holding e) (changeFor own n rows (e .area) (e .act)) (isReturnOf n e)
+    unfolding stepped applied
     entry-tells e = go (isTable own)
       where
-        go : (t : Bool) → Tells (cond t (applied own schedule6 holding e) (turnedBack TableColumn)) (changeFor own n rows e) (isReturnOf n e)
-        go true = applied-tells e
-        go false = turned-tells TableColumn (changeFor own n rows e) (isReturnOf n e)
+        go : (t : Bool) → Tells (cond t (applied own schedule6 holding e) (turnedBack Refusal.TableColumn)) (changeFor own n rows (e .area) (e .act)) (isReturnOf n e)
+        go true = acted-tells (e .area) (e .act)
+        go false = turned-tells Refusal.TableColumn (changeFor own n rows (e .area) (e .act)) (isReturnOf n e)

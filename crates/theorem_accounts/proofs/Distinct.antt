@@ -1,16 +1,12 @@
 -- Lists whose elements bear distinct numbers: an element may be changed that keeps its number, and each element is the one under its number.
-use Prim.Native.Nat.{ℕ}
-use mathlib.Core.Bool.{Bool, true, false, cond, not, _&&_, _||_}
-use mathlib.Core.Path.{_≡_, refl}
-use mathlib.Core.List.{List, [], _∷_, List·Memᴰ, List·Memᴰ·head, List·Memᴰ·tail}
+use Rattle.laws.proofs.{ℕ, Bool, true, false, cond, not, _&&_, _||_, _≡_, refl, List, [], _∷_, eq-eqb, eqb}
+use mathlib.Core.List.{List·Memᴰ, List·Memᴰ·head, List·Memᴰ·tail}
 use mathlib.Core.Option.{none, some}
-use borrow.Author.Tests.{eq-eqb}
-use lib.Dec.{eqb}
-use Rattle.laws.specs.Elements.{some as someOf, distinct}
+use Rattle.laws.specs.{some as someOf, distinct}
 use Rattle.laws.proofs.Elements.{none-passes}
 use Rattle.laws.proofs.Distinct.{unequal, bears, first-apart, rest-distinct}
-use Rattle.theorem_ledger.specs.Keyed.{change}
-use Rattle.theorem_accounts.specs.Feeding.{under}
+use Rattle.theorem_ledger.specs.{change}
+use Rattle.theorem_accounts.specs.{under}
 
 module _ {A : Type 0} (numberOf : A → ℕ) where
   pub none-bears : (n : ℕ) (l : List A) → under numberOf n l ≡ none → someOf (bears numberOf n) l ≡ false

@@ -1,48 +1,39 @@
 -- The papers' examples, run: what the engine reports for the area, as antt computes it.
-use Prim.Native.Nat.{ℕ}
-use mathlib.Core.Path.{_≡_, refl}
-use mathlib.Core.List.{List, [], _∷_}
+use Rattle.laws.proofs.{ℕ, _≡_, refl, List, [], _∷_}
 use lib.IntN.{pos, negsuc}
-use Rattle.laws.specs.Lists.{sumOf, eachAtMost}
-use Rattle.laws.specs.Tests.{allOf}
-use Rattle.laws.specs.Elements.{sumBy}
-use Rattle.refusals.specs.Refusals.{weighed, weighAll, smallest}
-use Rattle.units.specs.Units.{treesOf, residueOf}
-use Rattle.units.specs.Tonnes.{tonnes, value, changeBetween}
-use Rattle.forest.specs.declared.Forest.{Forest}
-use Rattle.forest.specs.declared.Forest.the-variants.{DouglasFir, ExoticHardwoods}
-use Rattle.schedules.specs.Schedules.{placeSix, schedule6}
-use Rattle.table_parts.specs.Parts.{lengthOf}
-use Rattle.table.specs.Participant.{hasColumns, isTable}
-use Rattle.table_lent.specs.Lent.{ownColumn}
-use Rattle.rates.specs.Rates.{consulted, cellAt, rateSix}
-use Rattle.rates.specs.Decay.{shareAfter}
-use Rattle.stocks.specs.Stocks.{treesOn, residueOn, subStock, areaStock}
-use Rattle.line_entry.specs.declared.Entry.{Entry}
-use Rattle.line_entry.specs.declared.Entry.the-variants.{Open, Add, Clear, Plant, File, Withdraw}
-use Rattle.holding.specs.Holding.{emptyHolding}
-use Rattle.holding.specs.Find.{placeFrom, findArea, findSub}
-use Rattle.holding_look.specs.Standing.{areaAt, subAt, withSub}
-use Rattle.statement_carried.specs.Carried.{yearsCarried, amountsCarried, fieldsCarried}
-use Rattle.step_outcome.specs.Outcomes.{answered, placed, areaCases}
-use Rattle.step_open.specs.Opening.{openCases, opened}
-use Rattle.step_add.specs.Adding.{addCases, addedArea, added}
-use Rattle.step_clear.specs.Clearing.{clearCases, clearedSub, clearedArea, cleared}
-use Rattle.step_plant.specs.Planting.{plantCases, plantedSub, plantedArea, planted}
-use Rattle.step_file.specs.Filing.{fileCases, changeOf, filedArea, returnOf, filed}
-use Rattle.step_withdraw.specs.Withdrawing.{withdrawCases, withdrawnArea, withdrawn}
-use Rattle.step.specs.Steps.{applied, stepped, outcomesFrom}
-use Rattle.theorem_accounts.specs.Reports.{Reported, nothingReported, reportedWith, reportedFrom}
+use Rattle.laws.specs.{sumOf, eachAtMost, allOf, sumBy}
+use Rattle.refusals.specs.{weighed, weighAll, smallest}
+use Rattle.units.specs.{treesOf, residueOf, tonnes, value, changeBetween}
+use Rattle.forest.specs.{Forest}
+use Rattle.schedules.specs.{placeSix, schedule6}
+use Rattle.table_parts.specs.{lengthOf}
+use Rattle.table.specs.{hasColumns, isTable}
+use Rattle.table_lent.specs.{ownColumn}
+use Rattle.rates.specs.{consulted, cellAt, rateSix, shareAfter}
+use Rattle.stocks.specs.{treesOn, residueOn, subStock, areaStock}
+use Rattle.line_entry.specs.{Act, AreaAct, on}
+use Rattle.holding.specs.{emptyHolding, placeFrom, findArea, findSub}
+use Rattle.holding_look.specs.{areaAt, subAt, withSub}
+use Rattle.statement_carried.specs.{yearsCarried, amountsCarried, fieldsCarried}
+use Rattle.step_outcome.specs.{answered, placed, areaCases}
+use Rattle.step_open.specs.{openCases, opened}
+use Rattle.step_add.specs.{addCases, addedArea, added}
+use Rattle.step_clear.specs.{clearCases, clearedSub, clearedArea, cleared}
+use Rattle.step_plant.specs.{plantCases, plantedSub, plantedArea, planted}
+use Rattle.step_file.specs.{fileCases, changeOf, filedArea, returnOf, filed}
+use Rattle.step_withdraw.specs.{withdrawCases, withdrawnArea, withdrawn}
+use Rattle.step.specs.{applied, stepped, outcomesFrom}
+use Rattle.theorem_accounts.specs.{Reported, nothingReported, reportedWith, reportedFrom}
 
 pub record Example : Type 0 where
   pub table : List ℕ
-  pub entries : List Entry
+  pub entries : List AreaAct
   pub area : ℕ
   pub reported : Reported
 
 -- a sub-area of so many tenths
-abbrev sub : ℕ → ℕ → ℕ → Forest → ℕ → Entry
-sub area number tenths forest planted = Add area number (record { 0 = tenths }) forest planted
+abbrev sub : ℕ → ℕ → Forest → ℕ → Act
+sub number tenths forest planted = Act.Add number (record { 0 = tenths }) forest planted
 
 abbrev examples : List Example
 examples =
@@ -50,15 +41,15 @@ examples =
     record {
       table = 0 ∷ 5 ∷ 0 ∷ 0 ∷ 0 ∷ 0 ∷ 5 ∷ 0 ∷ 0 ∷ 0 ∷ 0 ∷ 10 ∷ 45 ∷ 100 ∷ 200 ∷ 0 ∷ 5 ∷ 20 ∷ 50 ∷ 80 ∷ [];
       entries =
-          Open 7 2010
-          ∷ sub 7 1 100 DouglasFir 2008
-          ∷ File 7 2010
-          ∷ Clear 7 1 2011
-          ∷ Plant 7 1 DouglasFir 2011
-          ∷ File 7 2012
-          ∷ File 7 2013
-          ∷ Clear 7 2 2014
-          ∷ Withdraw 7
+          on 7 (Act.Open 2010)
+          ∷ on 7 (sub 1 100 Forest.DouglasFir 2008)
+          ∷ on 7 (Act.File 2010)
+          ∷ on 7 (Act.Clear 1 2011)
+          ∷ on 7 (Act.Plant 1 Forest.DouglasFir 2011)
+          ∷ on 7 (Act.File 2012)
+          ∷ on 7 (Act.File 2013)
+          ∷ on 7 (Act.Clear 2 2014)
+          ∷ on 7 Act.Withdraw
           ∷ [];
       area = 7;
       reported = record { changes = pos 55 ∷ negsuc 14 ∷ pos 50 ∷ []; received = 105; surrendered = 105; balance = 0 };
@@ -66,7 +57,7 @@ examples =
     -- "Area of 1 ha, H cells 100,70,120, planted and opened 2010: returns to 2010 and 2011 report −30, 50; due 0; balance 50."
     ∷ record {
       table = 0 ∷ 0 ∷ 0 ∷ 3 ∷ 0 ∷ 0 ∷ 0 ∷ 0 ∷ 0 ∷ 0 ∷ 1000 ∷ 700 ∷ 1200 ∷ [];
-      entries = Open 1 2010 ∷ sub 1 1 10 ExoticHardwoods 2010 ∷ File 1 2010 ∷ File 1 2011 ∷ [];
+      entries = on 1 (Act.Open 2010) ∷ on 1 (sub 1 10 Forest.ExoticHardwoods 2010) ∷ on 1 (Act.File 2010) ∷ on 1 (Act.File 2011) ∷ [];
       area = 1;
       reported = record { changes = negsuc 29 ∷ pos 50 ∷ []; received = 50; surrendered = 0; balance = 50 };
     }

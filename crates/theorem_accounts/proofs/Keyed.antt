@@ -1,19 +1,11 @@
 -- What stands under a number, in a list that grows at its end or of which one element is changed; and the places of a search, by which
 -- an array's store is that change.
-use Prim.Native.Nat.{ℕ, suc, _+_, _<_}
-use mathlib.Core.Bool.{Bool, true, false, cond}
-use mathlib.Core.Path.{_≡_, refl, sym, ap, _∙_}
-use mathlib.Core.List.{List, [], _∷_, _++_}
+use Rattle.laws.proofs.{ℕ, suc, _+_, _<_, Bool, true, false, cond, _≡_, refl, sym, ap, _∙_, List, [], _∷_, _++_, arith, eqb-true, eq-eqb, ne-eqb, eqb, length, take, getD, set, length-take, getD-take}
 use mathlib.Core.Option.{none, some}
-use native.Mathlib.Omega.{arith}
-use borrow.Author.Tests.{eqb-true, eq-eqb, ne-eqb}
-use lib.Dec.{eqb}
-use lib.ListN.{length, take, getD, set, length-take}
-use lib.Seq.{take-set-lt, getD-take}
-use Rattle.holding.specs.declared.Found.the-variants.{At, Nowhere}
-use Rattle.holding.specs.Find.{placeFrom}
-use Rattle.theorem_ledger.specs.Keyed.{change}
-use Rattle.theorem_accounts.specs.Feeding.{under}
+use lib.Seq.{take-set-lt}
+use Rattle.holding.specs.{placeFrom, Found}
+use Rattle.theorem_ledger.specs.{change}
+use Rattle.theorem_accounts.specs.{under}
 
 module _ {A : Type 0} (numberOf : A → ℕ) (n : ℕ) where
   pub under-bears : (l : List A) (a : A) → under numberOf n l ≡ some a → numberOf a ≡ n
@@ -81,13 +73,13 @@ module _ {A : Type 0} (numberOf : A → ℕ) (n : ℕ) where
     pub here : (d : A) → under numberOf n l ≡ some (getD l k d)
     pub stored : (d : A) (f : A → A) → set l k (f (getD l k d)) ≡ change numberOf n f l
 
-  spot : (j i : ℕ) (l : List A) → placeFrom numberOf n j l ≡ At i → Spot j i l
+  spot : (j i : ℕ) (l : List A) → placeFrom numberOf n j l ≡ Found.At i → Spot j i l
   unfolding placeFrom under change
   spot j i [] e = let z : _≡_ {A = ℕ} 0 1 = cc in absurd (omega arith)
   spot j i (a ∷ l) e = go (eqb (numberOf a) n) refl e (spot (j + 1) i l)
     where
-      go : (t : Bool) → eqb (numberOf a) n ≡ t → cond t (At j) (placeFrom numberOf n (j + 1) l) ≡ At i
-          → (placeFrom numberOf n (j + 1) l ≡ At i → Spot (j + 1) i l) → Spot j i (a ∷ l)
+      go : (t : Bool) → eqb (numberOf a) n ≡ t → cond t (Found.At j) (placeFrom numberOf n (j + 1) l) ≡ Found.At i
+          → (placeFrom numberOf n (j + 1) l ≡ Found.At i → Spot (j + 1) i l) → Spot j i (a ∷ l)
       go true t e rest =
           let q : i ≡ j = cc in
           record { k = 0; there = omega arith; inside = omega arith; here = λ d. rw t; stored = λ d f. rw t }
@@ -101,13 +93,13 @@ module _ {A : Type 0} (numberOf : A → ℕ) (n : ℕ) where
             stored = λ d f. rw t (ap (λ (r : List A). a ∷ r) (s .stored d f));
           }
 
-  nowhere-none : (j : ℕ) (l : List A) → placeFrom numberOf n j l ≡ Nowhere → under numberOf n l ≡ none
+  nowhere-none : (j : ℕ) (l : List A) → placeFrom numberOf n j l ≡ Found.Nowhere → under numberOf n l ≡ none
   unfolding placeFrom under
   nowhere-none j [] e = refl
   nowhere-none j (a ∷ l) e = go (eqb (numberOf a) n) e (nowhere-none (j + 1) l)
     where
-      go : (t : Bool) → cond t (At j) (placeFrom numberOf n (j + 1) l) ≡ Nowhere
-          → (placeFrom numberOf n (j + 1) l ≡ Nowhere → under numberOf n l ≡ none) → cond t (some a) (under numberOf n l) ≡ none
+      go : (t : Bool) → cond t (Found.At j) (placeFrom numberOf n (j + 1) l) ≡ Found.Nowhere
+          → (placeFrom numberOf n (j + 1) l ≡ Found.Nowhere → under numberOf n l ≡ none) → cond t (some a) (under numberOf n l) ≡ none
       go true e rest = let z : _≡_ {A = ℕ} 0 1 = cc in absurd (omega arith)
       go false e rest = rest e
 
@@ -116,7 +108,7 @@ module _ {A : Type 0} (numberOf : A → ℕ) (n : ℕ) where
     within : (k : ℕ) → k < length (take count l) → k < count
     within k h = omega (arith, length-take count l)
 
-    pub standing-here : (i : ℕ) (d : A) → placeFrom numberOf n 0 (take count l) ≡ At i → under numberOf n (take count l) ≡ some (getD l i d)
+    pub standing-here : (i : ℕ) (d : A) → placeFrom numberOf n 0 (take count l) ≡ Found.At i → under numberOf n (take count l) ≡ some (getD l i d)
     standing-here i d e = go (spot 0 i (take count l) e)
       where
         go : Spot 0 i (take count l) → under numberOf n (take count l) ≡ some (getD l i d)
@@ -124,7 +116,7 @@ module _ {A : Type 0} (numberOf : A → ℕ) (n : ℕ) where
             let q : s .k ≡ i = omega (arith, s .there) in
             s .here d ∙ ap some (getD-take count l (s .k) d (within (s .k) (s .inside)) ∙ ap (λ (j : ℕ). getD l j d) q)
 
-    pub standing-changed : (i : ℕ) (d : A) (f : A → A) → placeFrom numberOf n 0 (take count l) ≡ At i
+    pub standing-changed : (i : ℕ) (d : A) (f : A → A) → placeFrom numberOf n 0 (take count l) ≡ Found.At i
         → take count (set l i (f (getD l i d))) ≡ change numberOf n f (take count l)
     standing-changed i d f e = go (spot 0 i (take count l) e)
       where
@@ -137,5 +129,5 @@ module _ {A : Type 0} (numberOf : A → ℕ) (n : ℕ) where
             ∙ ap (λ (a : A). set (take count l) (s .k) (f a)) (sym (getD-take count l (s .k) d h))
             ∙ s .stored d f
 
-    pub standing-none : placeFrom numberOf n 0 (take count l) ≡ Nowhere → under numberOf n (take count l) ≡ none
+    pub standing-none : placeFrom numberOf n 0 (take count l) ≡ Found.Nowhere → under numberOf n (take count l) ≡ none
     standing-none e = nowhere-none 0 (take count l) e

@@ -1,38 +1,22 @@
 -- Demand 3 for every row of the ledger: an accepted opening finds its number unused, so no two rows bear the same number, and each row is the
 -- one under its number.
-use Prim.Native.Nat.{ℕ, _+_}
-use mathlib.Core.Bool.{Bool, true, false, cond}
-use mathlib.Core.Path.{_≡_, refl, _∙_}
-use mathlib.Core.List.{List, [], _∷_, List·Memᴰ}
+use Rattle.laws.proofs.{ℕ, _+_, Bool, true, false, cond, _≡_, refl, _∙_, List, [], _∷_, arith}
+use mathlib.Core.List.{List·Memᴰ}
 use mathlib.Core.Option.{Option, none, some}
-use native.Mathlib.Omega.{arith}
 use Rattle.laws.proofs.Distinct.{distinct-more}
-use Rattle.laws.specs.Elements.{distinct}
-use Rattle.refusals.specs.declared.Refusal.the-variants.{TableColumn}
-use Rattle.refusals.specs.declared.Verdict.{Verdict}
-use Rattle.refusals.specs.declared.Verdict.the-variants.{Clear as Accepted, Turned}
-use Rattle.refusals.specs.Refusals.{smallest}
-use Rattle.refusals.proofs.Laws.{NoneApplies, none-applies}
-use Rattle.table.specs.Participant.{isTable}
-use Rattle.line_entry.specs.declared.Entry.{Entry}
-use Rattle.line_entry.specs.declared.Entry.the-variants.{Open, Add, Clear, Plant, File, Withdraw, Column}
-use Rattle.holding.specs.declared.Area.{Area}
-use Rattle.holding.specs.declared.Holding.{Holding}
-use Rattle.holding.specs.declared.Found.{Found}
-use Rattle.holding.specs.declared.Found.the-variants.{At, Nowhere}
-use Rattle.holding.specs.Holding.{areasOf, openedArea, emptyHolding}
-use Rattle.holding.specs.Find.{findArea}
-use Rattle.holding_look.specs.Standing.{known, lookedUp}
-use Rattle.step_outcome.specs.declared.Report.the-variants.{Nothing}
-use Rattle.step_outcome.specs.declared.Outcome.{Outcome}
-use Rattle.step_outcome.specs.Outcomes.{accepted, answered, turnedBack, placed}
-use Rattle.step_open.specs.Opening.{openCases}
+use Rattle.laws.specs.{distinct}
+use Rattle.refusals.specs.{Verdict, smallest, Refusal}
+use Rattle.refusals.proofs.Laws.{ruled-out}
+use Rattle.table.specs.{isTable}
+use Rattle.line_entry.specs.{Act, AreaAct, on}
+use Rattle.holding.specs.{Area, Holding, Found, areasOf, openedArea, emptyHolding, findArea}
+use Rattle.holding_look.specs.{known, lookedUp}
+use Rattle.step_outcome.specs.{Outcome, accepted, answered, turnedBack, placed, Report}
+use Rattle.step_open.specs.{openCases}
 use Rattle.step_open.specs.Opening as Opening
-use Rattle.step.specs.Steps.{applied, stepped, outcomesFrom}
-use Rattle.theorem_ledger.specs.Ledger.{Row, rowNumber, opened, entered, noted}
-use Rattle.theorem_accounts.specs.Reports.{Reported, nothingReported, reportedWith}
-use Rattle.theorem_accounts.specs.Feeding.{under, isAccepted, fed}
-use Rattle.theorem_accounts.specs.Accounts.{holdingAfter, stepsOf, ledgerAfter, reportedFor, Agrees, AccountsAgree}
+use Rattle.step.specs.{applied, stepped, outcomesFrom}
+use Rattle.theorem_ledger.specs.{Row, rowNumber, opened, entered, notedStep, noted}
+use Rattle.theorem_accounts.specs.{Reported, nothingReported, reportedWith, under, isAccepted, fed, holdingAfter, stepsOf, ledgerAfter, reportedFor, Agrees, AccountsAgree}
 use Rattle.theorem_accounts.proofs.Keyed.{standing-none}
 use Rattle.theorem_accounts.proofs.Distinct.{none-bears, distinct-changed, listed-under}
 use Rattle.theorem_accounts.proofs.Agreed.{areaNumber, Matched, Agreed}
@@ -41,26 +25,26 @@ use Rattle.theorem_accounts.proofs.Accounts.{agreed-at-first, accounts-
 
 module _ (own : List ℕ) where
   -- an accepted opening finds no area of its number
-  unused : (holding : Holding) (m year : ℕ) → isAccepted (stepped own holding (Open m year) .verdict) ≡ true → findArea holding m ≡ Nowhere
-  unfolding stepped applied Opening.opened answered openCases NoneApplies
+  unused : (holding : Holding) (m year : ℕ) → isAccepted (stepped own holding (on m (Act.Open year)) .verdict) ≡ true → findArea holding m ≡ Found.Nowhere
+  unfolding stepped applied Opening.opened answered openCases
   unused holding m year = go (isTable own)
     where
-      nowhere : (found : Found) → known found ≡ false → found ≡ Nowhere
-      nowhere (At i) e = let z : _≡_ {A = ℕ} 0 1 = cc in absurd (omega arith)
-      nowhere Nowhere e = refl
+      nowhere : (found : Found) → known found ≡ false → found ≡ Found.Nowhere
+      nowhere (Found.At i) e = let z : _≡_ {A = ℕ} 0 1 = cc in absurd (omega arith)
+      nowhere Found.Nowhere e = refl
 
       judged : (v : Verdict) → smallest (openCases (lookedUp holding m) m year) ≡ v
-          → isAccepted (answered v (accepted Nothing (At (holding .count)) (holding .count + 1) (openedArea m year)) .verdict) ≡ true
-          → findArea holding m ≡ Nowhere
-      judged (Turned refusal) v e = let z : _≡_ {A = ℕ} 0 1 = cc in absurd (omega arith)
-      judged Accepted v e = nowhere (findArea holding m) (none-applies (openCases (lookedUp holding m) m year) v .1 .1 .1 .0)
+          → isAccepted (answered v (accepted Report.Nothing (Found.At (holding .count)) (holding .count + 1) (openedArea m year)) .verdict) ≡ true
+          → findArea holding m ≡ Found.Nowhere
+      judged (Verdict.Refused refusal) v e = let z : _≡_ {A = ℕ} 0 1 = cc in absurd (omega arith)
+      judged Verdict.Accepted v e = nowhere (findArea holding m) (ruled-out (openCases (lookedUp holding m) m year) v 3)
 
-      go : (t : Bool) → isAccepted (cond t (Opening.opened (lookedUp holding m) m year) (turnedBack TableColumn) .verdict) ≡ true → findArea holding m ≡ Nowhere
+      go : (t : Bool) → isAccepted (cond t (Opening.opened (lookedUp holding m) m year) (turnedBack Refusal.TableColumn) .verdict) ≡ true → findArea holding m ≡ Found.Nowhere
       go true e = judged (smallest (openCases (lookedUp holding m) m year)) refl e
       go false e = let z : _≡_ {A = ℕ} 0 1 = cc in absurd (omega arith)
 
   module _ (holding : Holding) (rows : List Row) (reported : ℕ → Reported) (agreed : (n : ℕ) → Agreed n holding rows (reported n)) where
-    unlisted : (m : ℕ) → findArea holding m ≡ Nowhere → under rowNumber m rows ≡ none
+    unlisted : (m : ℕ) → findArea holding m ≡ Found.Nowhere → under rowNumber m rows ≡ none
     unfolding findArea
     unlisted m e =
         go (under areaNumber m (areasOf holding)) (standing-none areaNumber m (holding .areas) (holding .count) e) (under rowNumber m rows) (agreed m .matched)
@@ -70,39 +54,38 @@ module _ (own : List ℕ) where
         go none e (some row) k = absurd k
         go (some area) e q k = let z : _≡_ {A = ℕ} 0 1 = cc in absurd (omega arith)
 
-    entry-distinct : (e : Entry) → distinct rowNumber rows ≡ true → isAccepted (stepped own holding e .verdict) ≡ true
-        → distinct rowNumber (entered own e rows) ≡ true
+    entry-distinct : (m : ℕ) (act : Act) → distinct rowNumber rows ≡ true → isAccepted (stepped own holding (on m act) .verdict) ≡ true
+        → distinct rowNumber (entered own m act rows) ≡ true
     unfolding entered
-    entry-distinct (Open m year) d t = distinct-more rowNumber rows (opened m year) (none-bears rowNumber m rows (unlisted m (unused holding m year t))) d
-    entry-distinct (Add m sub land forest year) d t = distinct-changed rowNumber _ (λ row. refl) m rows ∙ d
-    entry-distinct (Clear m sub year) d t = distinct-changed rowNumber _ (λ row. refl) m rows ∙ d
-    entry-distinct (Plant m sub forest year) d t = distinct-changed rowNumber _ (λ row. refl) m rows ∙ d
-    entry-distinct (File m last) d t = distinct-changed rowNumber _ (λ row. refl) m rows ∙ d
-    entry-distinct (Withdraw m) d t = distinct-changed rowNumber _ (λ row. refl) m rows ∙ d
-    entry-distinct (Column column cells) d t = d
+    entry-distinct m (Act.Open year) d t = distinct-more rowNumber rows (opened m year) (none-bears rowNumber m rows (unlisted m (unused holding m year t))) d
+    entry-distinct m (Act.Add sub land forest year) d t = distinct-changed rowNumber _ (λ row. refl) m rows ∙ d
+    entry-distinct m (Act.Clear sub year) d t = distinct-changed rowNumber _ (λ row. refl) m rows ∙ d
+    entry-distinct m (Act.Plant sub forest year) d t = distinct-changed rowNumber _ (λ row. refl) m rows ∙ d
+    entry-distinct m (Act.File last) d t = distinct-changed rowNumber _ (λ row. refl) m rows ∙ d
+    entry-distinct m Act.Withdraw d t = distinct-changed rowNumber _ (λ row. refl) m rows ∙ d
 
-  distinct-after : (es : List Entry) (holding : Holding) (rows : List Row) (reported : ℕ → Reported) → ((n : ℕ) → Agreed n holding rows (reported n))
+  distinct-after : (es : List AreaAct) (holding : Holding) (rows : List Row) (reported : ℕ → Reported) → ((n : ℕ) → Agreed n holding rows (reported n))
       → distinct rowNumber rows ≡ true → distinct rowNumber (noted own rows (fed es (outcomesFrom own holding es))) ≡ true
   unfolding outcomesFrom fed noted
   distinct-after [] holding rows reported agreed d = d
   distinct-after (e ∷ es) holding rows reported agreed d =
-      distinct-after es (placed holding o) (cond (isAccepted (o .verdict)) (entered own e rows) rows) (λ n. reportedWith n (reported n) (o .report))
+      distinct-after es (placed holding o) (notedStep own rows e (isAccepted (o .verdict))) (λ n. reportedWith n (reported n) (o .report))
       (λ n. entry-keeps own n holding rows (reported n) (agreed n) e) (go (isAccepted (o .verdict)) refl)
     where
       o : Outcome
       o = stepped own holding e
 
-      go : (t : Bool) → isAccepted (o .verdict) ≡ t → distinct rowNumber (cond t (entered own e rows) rows) ≡ true
-      go true t = entry-distinct holding rows reported agreed e d t
+      go : (t : Bool) → isAccepted (o .verdict) ≡ t → distinct rowNumber (notedStep own rows e t) ≡ true
+      go true t = entry-distinct holding rows reported agreed (e .area) (e .act) d t
       go false t = d
 
 -- no two rows of the ledger bear the same number
-pub rows-distinct : (own : List ℕ) (es : List Entry) → distinct rowNumber (ledgerAfter own es) ≡ true
+pub rows-distinct : (own : List ℕ) (es : List AreaAct) → distinct rowNumber (ledgerAfter own es) ≡ true
 unfolding distinct
 rows-distinct own es = distinct-after own es emptyHolding [] (λ n. nothingReported) (λ n. agreed-at-first own n) refl
 
 -- demand 3 for each row
-pub each-row : (own : List ℕ) (es : List Entry) (row : Row) → List·Memᴰ row (ledgerAfter own es)
+pub each-row : (own : List ℕ) (es : List AreaAct) (row : Row) → List·Memᴰ row (ledgerAfter own es)
     → Agrees own (row .number) (holdingAfter own es) (stepsOf own es) (reportedFor own es (row .number)) (some row)
 unfolding AccountsAgree
 each-row own es row m =

@@ -1,15 +1,13 @@
 -- One change more at the end: the sum grows by it, and the lowest is the lesser of the lowest before and the new sum. The lowest is at most
 -- nought and every running sum, and is one of these.
-use mathlib.Core.Bool.{Bool, true, false, cond}
-use mathlib.Core.Logic.{_⊎_, inl, inr}
-use mathlib.Core.Path.{_≡_, refl, ap, _∙_}
-use mathlib.Core.List.{List, [], _∷_, _++_, foldl}
+use Rattle.laws.proofs.{Bool, true, false, cond, _⊎_, inl, inr, _≡_, refl, ap, _∙_, List, [], _∷_, _++_}
+use mathlib.Core.List.{foldl}
 use lib.IntN.{ℤ, pos, _+ℤ_}
 use lib.Signed.{leZ, _≤ℤ_, ≤ℤ-refl}
 use Rattle.laws.proofs.Signed.{ints, min-read}
 use Rattle.laws.proofs.Choosing.{Choice, Best, chosen-best}
-use Rattle.theorem_ledger.specs.Ledger.{lesser}
-use Rattle.theorem_accounts.specs.Running.{total, sumsFrom, runningSums, lowest}
+use Rattle.theorem_ledger.specs.{lesser}
+use Rattle.theorem_accounts.specs.{total, sumsFrom, runningSums, lowest}
 
 fold-more : {A B : Type 0} (f : B → A → B) (b : B) (l : List A) (x : A) → foldl f b (l ++ (x ∷ [])) ≡ f (foldl f b l) x
 fold-more f b [] x = refl

@@ -1,16 +1,12 @@
 -- The arithmetic of an account. Tonnes stray from kilograms by half a tonne a return, and the strayings add up. The balance is the sum less
 -- its lowest: a gain raises both balance and sum, and of a loss the balance bears what it holds while the rest lowers the lowest.
-use Prim.Native.Nat.{ℕ, suc, _+_, _*_, _-_, _≤_, min}
-use mathlib.Core.Path.{_≡_, refl}
-use native.Mathlib.Omega.{arith}
+use Rattle.laws.proofs.{ℕ, suc, _+_, _*_, _-_, _≤_, min, _≡_, refl, arith}
 use lib.IntN.{ℤ, pos, negℤ, natAbs, _+ℤ_, _-ℤ_, _*ℤ_}
 use Rattle.laws.proofs.Signed.{above, below, one-side, ℤ-same, ℤ-read, neg-read, add-read, diff-read, times-read, abs-read, min-read}
-use Rattle.units.specs.declared.Change.{Change}
-use Rattle.units.specs.declared.Change.the-variants.{Gain, Loss}
-use Rattle.units.specs.Tonnes.{value, nearestTonne}
+use Rattle.units.specs.{Change, value, nearestTonne}
 use Rattle.units.proofs.Rounding.{within-half}
-use Rattle.step_file.specs.Filing.{receivedOf, dueOf}
-use Rattle.theorem_ledger.specs.Ledger.{lesser}
+use Rattle.step_file.specs.{receivedOf, dueOf}
+use Rattle.theorem_ledger.specs.{lesser}
 
 -- a thousand times a sum of tonnes is within 500 kg for each return of the change of a stock
 abbrev pub Near : ℤ → ℕ → ℕ → ℕ → Type 0
@@ -72,10 +68,10 @@ held-start = record { held = refl; low = refl }
 pub held-more : (balance : ℕ) (sum lowest : ℤ) (c : Change) → Held balance sum lowest
     → Held (balance + receivedOf c - dueOf c balance) (sum +ℤ value c) (lesser lowest (sum +ℤ value c))
 unfolding value
-held-more b s w (Gain t) h =
+held-more b s w (Change.Gain t) h =
     let z : ℤ = s +ℤ pos t in
     reads-held (b + t - 0) z (lesser w z) (omega (arith, held-reads b s w h, add-read s (pos t), min-read w z, one-side z, one-side s))
-held-more b s w (Loss t) h =
+held-more b s w (Change.Loss t) h =
     let x : ℤ = negℤ (pos t) in
     let z : ℤ = s +ℤ x in
     reads-held (b + 0 - min t b) z (lesser w z)
@@ -87,10 +83,10 @@ module _ (received surrendered balance : ℕ) (paid : received ≡ surrendered +
   balance-is = omega arith
 
   pub balance-more : (c : Change) → received + receivedOf c - (surrendered + dueOf c balance) ≡ balance + receivedOf c - dueOf c balance
-  balance-more (Gain t) = omega arith
-  balance-more (Loss t) = omega arith
+  balance-more (Change.Gain t) = omega arith
+  balance-more (Change.Loss t) = omega arith
 
   -- what is due is never over the balance
   pub paid-more : (c : Change) → received + receivedOf c ≡ surrendered + dueOf c balance + (balance + receivedOf c - dueOf c balance)
-  paid-more (Gain t) = omega arith
-  paid-more (Loss t) = omega arith
+  paid-more (Change.Gain t) = omega arith
+  paid-more (Change.Loss t) = omega arith

@@ -1,18 +1,11 @@
 -- What the plain ledger is fed, and the changes that it gives for an area.
-use Prim.Native.Nat.{ℕ}
-use mathlib.Core.Bool.{Bool, true, false, cond, _&&_}
-use mathlib.Core.List.{List, [], _∷_, _++_, map}
+use Rattle.laws.specs.{ℕ, Bool, true, false, cond, _&&_, List, [], _∷_, _++_, map, eqb, length, keep}
 use mathlib.Core.Option.{Option, none, some}
-use lib.Dec.{eqb}
 use lib.IntN.{ℤ}
-use lib.ListN.{length}
-use Rattle.laws.specs.Elements.{keep}
-use Rattle.refusals.specs.declared.Verdict.{Verdict}
-use Rattle.refusals.specs.declared.Verdict.the-variants.{Clear as Accepted, Turned}
-use Rattle.line_entry.specs.declared.Entry.{Entry}
-use Rattle.line_entry.specs.declared.Entry.the-variants.{Open, Add, Clear, Plant, File, Withdraw, Column}
-use Rattle.step_outcome.specs.declared.Outcome.{Outcome}
-use Rattle.theorem_ledger.specs.Ledger.{Row, rowNumber, changeOf, entered}
+use Rattle.refusals.specs.{Verdict}
+use Rattle.line_entry.specs.{Act, AreaAct}
+use Rattle.step_outcome.specs.{Outcome}
+use Rattle.theorem_ledger.specs.{Row, rowNumber, changeOf, notedStep}
 
 -- the first in a list whose number it is
 unfoldable pub under : {A : Type 0} → (A → ℕ) → ℕ → List A → Option A
@@ -20,49 +13,50 @@ under numberOf n [] = none
 under numberOf n (a ∷ l) = cond (eqb (numberOf a) n) (some a) (under numberOf n l)
 
 abbrev pub isAccepted : Verdict → Bool
-isAccepted Accepted = true
-isAccepted (Turned refusal) = false
+isAccepted Verdict.Accepted = true
+isAccepted (Verdict.Refused refusal) = false
 
 -- "is fed each step and whether it was accepted"
-unfoldable pub fed : List Entry → List Outcome → List (Entry × Bool)
+unfoldable pub fed : List AreaAct → List Outcome → List (AreaAct × Bool)
 fed [] outcomes = []
 fed (e ∷ es) [] = []
 fed (e ∷ es) (o ∷ outcomes) = (e, isAccepted (o .verdict)) ∷ fed es outcomes
 
 -- the entries that were accepted: "A refused step counts as not sent."
-unfoldable pub acceptedOf : List (Entry × Bool) → List Entry
-acceptedOf steps = map (λ (s : Entry × Bool). s .0) (keep (λ (s : Entry × Bool). s .1) steps)
+unfoldable pub acceptedOf : List (AreaAct × Bool) → List AreaAct
+acceptedOf steps = map (λ (s : AreaAct × Bool). s .0) (keep (λ (s : AreaAct × Bool). s .1) steps)
 
 -- the change of a return to a year, by the row of its area
 abbrev pub changeBy : List ℕ → ℕ → Option Row → List ℤ
 changeBy own last none = []
 changeBy own last (some row) = changeOf own last row ∷ []
 
--- the change that an accepted entry has in the ledger, if it is a return of the area n
-unfoldable pub changeFor : List ℕ → ℕ → List Row → Entry → List ℤ
-changeFor own n rows (Open area year) = []
-changeFor own n rows (Add area sub land forest year) = []
-changeFor own n rows (Clear area sub year) = []
-changeFor own n rows (Plant area sub forest year) = []
-changeFor own n rows (File area last) = cond (eqb area n) (changeBy own last (under rowNumber n rows)) []
-changeFor own n rows (Withdraw area) = []
-changeFor own n rows (Column column cells) = []
+-- the change that an accepted act on the area m has in the ledger, if it is a return of the area n
+abbrev pub changeFor : List ℕ → ℕ → List Row → ℕ → Act → List ℤ
+changeFor own n rows m (Act.Open year) = []
+changeFor own n rows m (Act.Add sub land forest year) = []
+changeFor own n rows m (Act.Clear sub year) = []
+changeFor own n rows m (Act.Plant sub forest year) = []
+changeFor own n rows m (Act.File last) = cond (eqb m n) (changeBy own last (under rowNumber n rows)) []
+changeFor own n rows m Act.Withdraw = []
 
 -- the changes that the ledger gives for the area n, from its rows before the steps
-unfoldable pub changesFrom : List ℕ → ℕ → List Row → List (Entry × Bool) → List ℤ
+unfoldable pub changesFrom : List ℕ → ℕ → List Row → List (AreaAct × Bool) → List ℤ
 changesFrom own n rows [] = []
 changesFrom own n rows (s ∷ steps) =
-    cond (s .1) (changeFor own n rows (s .0)) [] ++ changesFrom own n (cond (s .1) (entered own (s .0) rows) rows) steps
+    cond (s .1) (changeFor own n rows (s .0 .area) (s .0 .act)) [] ++ changesFrom own n (notedStep own rows (s .0) (s .1)) steps
 
-abbrev pub isReturnOf : ℕ → Entry → Bool
-isReturnOf n (Open area year) = false
-isReturnOf n (Add area sub land forest year) = false
-isReturnOf n (Clear area sub year) = false
-isReturnOf n (Plant area sub forest year) = false
-isReturnOf n (File area last) = eqb area n
-isReturnOf n (Withdraw area) = false
-isReturnOf n (Column column cells) = false
+abbrev pub isReturn : Act → Bool
+isReturn (Act.Open year) = false
+isReturn (Act.Add sub land forest year) = false
+isReturn (Act.Clear sub year) = false
+isReturn (Act.Plant sub forest year) = false
+isReturn (Act.File last) = true
+isReturn Act.Withdraw = false
+
+abbrev pub isReturnOf : ℕ → AreaAct → Bool
+isReturnOf n on = isReturn (on .act) && eqb (on .area) n
 
 -- the number of returns: "the count is that of accepted R entries"
-unfoldable pub returnsIn : ℕ → List (Entry × Bool) → ℕ
-returnsIn n steps = length (keep (λ (s : Entry × Bool). s .1 && isReturnOf n (s .0)) steps)
+unfoldable pub returnsIn : ℕ → List (AreaAct × Bool) → ℕ
+returnsIn n steps = length (keep (λ (s : AreaAct × Bool). s .1 && isReturnOf n (s .0)) steps)

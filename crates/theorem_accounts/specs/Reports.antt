@@ -1,13 +1,8 @@
 -- What was reported for an area, read off the outcomes of a list of steps, the first first.
-use Prim.Native.Nat.{ℕ, _+_}
-use mathlib.Core.Bool.{cond}
-use mathlib.Core.List.{List, [], _∷_, _++_, foldl}
-use lib.Dec.{eqb}
+use Rattle.laws.specs.{ℕ, _+_, cond, List, [], _∷_, _++_, foldl, eqb}
 use lib.IntN.{ℤ}
-use Rattle.units.specs.Tonnes.{value}
-use Rattle.step_outcome.specs.declared.Report.{Report}
-use Rattle.step_outcome.specs.declared.Report.the-variants.{Nothing, Return, Withdrawal}
-use Rattle.step_outcome.specs.declared.Outcome.{Outcome}
+use Rattle.units.specs.{value}
+use Rattle.step_outcome.specs.{Report, Outcome}
 
 -- "The tonnes a return reports are its change. Units received and units surrendered are the totals of what was reported for the area as
 -- received and as due. Its balance is the last one reported for it, nought before any and after W."
@@ -22,17 +17,17 @@ nothingReported = record { changes = []; received = 0; surrendered = 0; balance 
 
 -- what was reported for the area n, with one report more
 unfoldable pub reportedWith : ℕ → Reported → Report → Reported
-reportedWith n before Nothing = before
-reportedWith n before (Return area first last change received due balance) =
-    cond (eqb area n)
+reportedWith n before Report.Nothing = before
+reportedWith n before (Report.Return filed) =
+    cond (eqb (filed .area) n)
     (record {
-      changes = before .changes ++ (value change ∷ []);
-      received = before .received + received;
-      surrendered = before .surrendered + due;
-      balance = balance;
+      changes = before .changes ++ (value (filed .change) ∷ []);
+      received = before .received + filed .received;
+      surrendered = before .surrendered + filed .due;
+      balance = filed .balance;
     })
     before
-reportedWith n before (Withdrawal area due) =
+reportedWith n before (Report.Withdrawal area due) =
     cond (eqb area n)
     (record { changes = before .changes; received = before .received; surrendered = before .surrendered + due; balance = 0 })
     before

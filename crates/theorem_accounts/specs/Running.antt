@@ -1,7 +1,7 @@
 -- The running sum of a list of changes, in order of time.
-use mathlib.Core.List.{List, [], _∷_, foldl}
+use Rattle.laws.specs.{List, [], _∷_, foldl}
 use lib.IntN.{ℤ, pos, _+ℤ_}
-use Rattle.theorem_ledger.specs.Ledger.{lesser}
+use Rattle.theorem_ledger.specs.{lesser}
 
 unfoldable pub total : List ℤ → ℤ
 total changes = foldl _+ℤ_ (pos 0) changes

@@ -1,36 +1,22 @@
 -- Demand 3, whole: a list of steps comes to what its entries alone come to, and those are accounted as the crate `accounts` shows. The area that
 -- stands under a number has its line in the statement, and what its row and the reports say of it stands in that line.
-use Prim.Native.Nat.{ℕ}
-use mathlib.Core.Bool.{Bool, true}
-use mathlib.Core.Path.{_≡_, refl, sym, ap, _∙_}
-use mathlib.Core.List.{List, _∷_, _++_}
+use Rattle.laws.proofs.{ℕ, Bool, true, _≡_, refl, sym, ap, _∙_, List, _∷_, _++_, arith, length, getD}
 use mathlib.Core.Option.{Option, none, some}
-use native.Mathlib.Omega.{arith}
-use lib.ListN.{length, getD}
-use Rattle.line_entry.specs.declared.Entry.{Entry}
-use Rattle.holding.specs.declared.Area.{Area}
-use Rattle.holding.specs.declared.Holding.{Holding}
-use Rattle.holding.specs.declared.Found.{Found}
-use Rattle.holding.specs.declared.Found.the-variants.{At, Nowhere}
-use Rattle.holding.specs.Holding.{mostSubs, subsOf, emptySub, emptyArea, emptyHolding}
-use Rattle.holding.specs.Find.{findArea}
-use Rattle.holding_look.specs.Standing.{known, areaAt}
-use Rattle.theorem_ledger.specs.Ledger.{Row, rowNumber, ledgerOf}
-use Rattle.theorem_keeping.specs.Kept.{Kept}
+use Rattle.line_entry.specs.{AreaAct}
+use Rattle.holding.specs.{Area, Holding, Found, mostSubs, subsOf, emptySub, emptyArea, emptyHolding, findArea}
+use Rattle.holding_look.specs.{known, areaAt}
+use Rattle.theorem_ledger.specs.{Row, rowNumber, ledgerOf}
+use Rattle.theorem_keeping.specs.{Kept}
 use Rattle.theorem_keeping.proofs.Register.{found-inside, register-at}
 use Rattle.theorem_keeping.proofs.Areas.{areaNumber}
 use Rattle.theorem_keeping.proofs.Keeping.{empty-kept}
-use Rattle.theorem_accounts.specs.Reports.{Reported, nothingReported}
-use Rattle.theorem_accounts.specs.Feeding.{under}
-use Rattle.theorem_accounts.specs.Accounts.{Shown, Agrees, AccountsAgree}
+use Rattle.theorem_accounts.specs.{Reported, nothingReported, under, Shown, Agrees, AccountsAgree}
 use Rattle.theorem_accounts.proofs.Keyed.{under-bears}
 use Rattle.theorem_accounts.proofs.Accounts.{accounts-agree}
-use Rattle.statement_format.specs.Format.{statementOf, flag}
+use Rattle.statement_format.specs.{statementOf, flag}
 use Rattle.theorem_round_trips.proofs.Arrays.{tidy-taken}
 use Rattle.theorem_round_trips.proofs.Fitting.{holding-fits}
-use Rattle.theorem_demand_three.specs.Steps.{Step}
-use Rattle.theorem_demand_three.specs.Shown.{areaLine, LineShown, Shows}
-use Rattle.theorem_demand_three.specs.DemandThree.{holdingAfter, reportedFor, fedBy, ledgerAfter, rowFor, DemandThree}
+use Rattle.theorem_demand_three.specs.{Step, areaLine, LineShown, Shows, holdingAfter, reportedFor, fedBy, ledgerAfter, rowFor, DemandThree}
 use Rattle.theorem_demand_three.proofs.ReadBacks.{read-back-verdict, read-back-holding, entriesOf, SameAlone, same-alone, steps-kept}
 use Rattle.theorem_demand_three.proofs.Lines.{lineOf, LineStands, line-stands}
 
@@ -61,12 +47,12 @@ module _ (statement : List ℕ) (area : Area) (n : ℕ) (reported : Reported) (r
   }
 
 -- what the statement of a kept holding shows for a number, by the ledger's row under it
-module _ (own : List ℕ) (n : ℕ) (holding : Holding) (kept : Kept holding) (steps : List (Entry × Bool)) (reported : Reported) (rows : List Row) where
+module _ (own : List ℕ) (n : ℕ) (holding : Holding) (kept : Kept holding) (steps : List (AreaAct × Bool)) (reported : Reported) (rows : List Row) where
   found-shown : (row : Row) (found : Found) → findArea holding n ≡ found → known found ≡ true → Shown (areaAt holding found) reported row → row .number ≡ n
       → LineShown (statementOf holding) n reported row
   unfolding findArea areaAt
-  found-shown row Nowhere e stands shown bears = let z : _≡_ {A = ℕ} 0 1 = cc in absurd (omega arith)
-  found-shown row (At i) e stands shown bears =
+  found-shown row Found.Nowhere e stands shown bears = let z : _≡_ {A = ℕ} 0 1 = cc in absurd (omega arith)
+  found-shown row (Found.At i) e stands shown bears =
       let area = getD (holding .areas) i emptyArea in
       let inside = found-inside areaNumber n i (holding .count) (holding .areas) e in
       let subs = register-at (holding-fits holding kept) n i emptyArea e .subs in
@@ -97,7 +83,7 @@ demand-three own steps n = record {
     alone : SameAlone own emptyHolding steps
     alone = same-alone own emptyHolding steps empty-kept
 
-    by : (h k : Holding) (f g : List (Entry × Bool)) (r q : Reported) → h ≡ k → f ≡ g → r ≡ q
+    by : (h k : Holding) (f g : List (AreaAct × Bool)) (r q : Reported) → h ≡ k → f ≡ g → r ≡ q
         → Agrees own n k g q (under rowNumber n (ledgerOf own g)) → Agrees own n h f r (under rowNumber n (ledgerOf own f))
     by h k f g r q a b c agrees = rw (a, b, c) agrees
 

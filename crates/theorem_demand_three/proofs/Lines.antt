@@ -1,19 +1,11 @@
 -- The statement of a holding, taken apart at an area: the lines before it, the area's own line, its sub-areas' and the rest. Every text before it
 -- ends with byte 10, so the area's line begins a line.
-use Prim.Native.Nat.{ℕ, suc, _<_}
-use mathlib.Core.Path.{_≡_, refl, sym, ap, subst, _∙_}
-use mathlib.Core.List.{List, [], _∷_, _++_, append-nil, append-assoc}
-use native.Mathlib.Omega.{arith}
-use lib.ListN.{length, take, drop, getD, length-take}
-use lib.Seq.{split-at, getD-take}
-use Rattle.text.specs.Digits.{digits}
-use Rattle.holding.specs.declared.Residue.{Residue}
-use Rattle.holding.specs.declared.Sub.{Sub}
-use Rattle.holding.specs.declared.Area.{Area}
-use Rattle.holding.specs.declared.Holding.{Holding}
-use Rattle.holding.specs.Holding.{areasOf, subsOf, emptyArea}
-use Rattle.statement_format.specs.Format.{startText, numberText, typeText, joined, texts, residueText, subText, flag, yearsText, amountsText, areaText, statementOf}
-use Rattle.theorem_demand_three.specs.Shown.{areaLine}
+use Rattle.laws.proofs.{ℕ, suc, _<_, _≡_, refl, sym, ap, subst, _∙_, List, [], _∷_, _++_, append-nil, append-assoc, arith, length, take, drop, getD, length-take, getD-take}
+use lib.Seq.{split-at}
+use Rattle.text.specs.{digits}
+use Rattle.holding.specs.{Residue, Sub, Area, Holding, areasOf, subsOf, emptyArea}
+use Rattle.statement_format.specs.{startText, numberText, typeText, joined, texts, residueText, subText, flag, yearsText, amountsText, areaText, statementOf}
+use Rattle.theorem_demand_three.specs.{areaLine}
 
 -- bytes that end with a line's end
 pub record EndsLine (bytes : List ℕ) : Type 0 where

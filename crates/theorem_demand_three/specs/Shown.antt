@@ -1,12 +1,9 @@
 -- "A statement written after the list shows these two totals, the number of returns and the closing stock."
-use Prim.Native.Nat.{ℕ}
-use mathlib.Core.Path.{_≡_}
-use mathlib.Core.List.{List, [], _∷_, _++_}
+use Rattle.laws.specs.{ℕ, _≡_, List, [], _∷_, _++_, length}
 use mathlib.Core.Option.{Option, none, some}
-use lib.ListN.{length}
-use Rattle.theorem_ledger.specs.Ledger.{Row}
-use Rattle.statement_format.specs.Format.{startText, numberText, joined, flag}
-use Rattle.theorem_accounts.specs.Reports.{Reported}
+use Rattle.theorem_ledger.specs.{Row}
+use Rattle.statement_format.specs.{startText, numberText, joined, flag}
+use Rattle.theorem_accounts.specs.{Reported}
 
 -- "A,number,opening,open year,latest year,withdrawn (0 or 1),returns,stock kg (last closing, else opening),received,surrendered,subs"
 unfoldable pub areaLine : (number opening openYear latest withdrawn returns stock received surrendered subs : ℕ) → List ℕ

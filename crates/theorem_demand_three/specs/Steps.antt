@@ -1,30 +1,18 @@
 -- The steps of demand 3: "Its steps are A, S, C, P, R and W entries and read-backs". `own` is the participant's table: "One participant's table,
--- or none, is lent unchanged throughout." A T entry may stand among them: it changes nothing here.
-use Prim.Native.Nat.{ℕ}
-use mathlib.Core.Bool.{Bool}
-use mathlib.Core.List.{List, [], _∷_}
-use lib.ListN.{length, take}
-use Rattle.refusals.specs.declared.Verdict.{Verdict}
-use Rattle.refusals.specs.declared.Verdict.the-variants.{Clear, Turned}
-use Rattle.refusals.specs.declared.Written.{Written}
-use Rattle.refusals.specs.declared.Written.the-variants.{Count, Refused}
-use Rattle.refusals.specs.Answers.{written, bufferAfter}
-use Rattle.line_entry.specs.declared.Entry.{Entry}
-use Rattle.holding.specs.declared.Holding.{Holding}
-use Rattle.holding.specs.declared.Found.the-variants.{Nowhere}
-use Rattle.holding.specs.Holding.{emptyArea, emptyHolding}
-use Rattle.step_outcome.specs.declared.Report.the-variants.{Nothing}
-use Rattle.step_outcome.specs.declared.Outcome.{Outcome}
-use Rattle.step_outcome.specs.Outcomes.{accepted, turnedBack, placed}
-use Rattle.step.specs.Steps.{stepped}
-use Rattle.statement_format.specs.Format.{statementOf}
-use Rattle.statement_write.specs.Writable.{writable}
-use Rattle.statement.specs.declared.Read.{Read}
-use Rattle.statement.specs.Statement.{readIf, readOf}
-use Rattle.theorem_accounts.specs.Feeding.{isAccepted}
+-- or none, is lent unchanged throughout."
+use Rattle.laws.specs.{ℕ, Bool, List, [], _∷_, length, take}
+use Rattle.refusals.specs.{Verdict, Written, written, bufferAfter}
+use Rattle.line_entry.specs.{AreaAct}
+use Rattle.holding.specs.{Holding, emptyArea, emptyHolding, Found}
+use Rattle.step_outcome.specs.{Outcome, accepted, turnedBack, placed, Report}
+use Rattle.step.specs.{stepped}
+use Rattle.statement_format.specs.{statementOf}
+use Rattle.statement_write.specs.{writable}
+use Rattle.statement.specs.{Read, readIf, readOf}
+use Rattle.theorem_accounts.specs.{isAccepted}
 
 pub data Step : Type 0 where
-  Enter : Entry → Step
+  Enter : AreaAct → Step
   -- the output that is lent for the statement, of any length and content
   ReadBack : List ℕ → Step
 
@@ -42,17 +30,17 @@ outputAfter holding out = bufferAfter (writable (statementOf holding) (length ou
 
 -- "and, unless that is refused, those bytes are read at once, unchanged": what the reader makes of them, or the write's refusal
 abbrev pub readAfter : Written → List ℕ → Read
-readAfter (Count n) output = readOf (take n output)
-readAfter (Refused refusal) output = readIf (Turned refusal) emptyHolding
+readAfter (Written.Count n) output = readOf (take n output)
+readAfter (Written.Refused refusal) output = readIf (Verdict.Refused refusal) emptyHolding
 
 -- "as the next holding"; a read-back reports nothing, and "A refused step counts as not sent."
 abbrev pub readResult : Holding → Verdict → Holding → Result
-readResult before Clear read = record { outcome = accepted Nothing Nowhere (read .count) emptyArea; holding = read }
-readResult before (Turned refusal) read = record { outcome = turnedBack refusal; holding = before }
+readResult before Verdict.Accepted read = record { outcome = accepted Report.Nothing Found.Nowhere (read .count) emptyArea; holding = read }
+readResult before (Verdict.Refused refusal) read = record { outcome = turnedBack refusal; holding = before }
 
 unfoldable pub resultOf : List ℕ → Holding → Step → Result
-resultOf own holding (Enter entry) = let outcome = stepped own holding entry in record { outcome = outcome; holding = placed holding outcome }
-resultOf own holding (ReadBack out) =
+resultOf own holding (Step.Enter on) = let outcome = stepped own holding on in record { outcome = outcome; holding = placed holding outcome }
+resultOf own holding (Step.ReadBack out) =
     let read = readAfter (writeAnswer holding out) (outputAfter holding out) in readResult holding (read .verdict) (read .holding)
 
 -- "Each step gets the holding that the last one left"
@@ -66,8 +54,8 @@ outcomesFrom own holding [] = []
 outcomesFrom own holding (s ∷ steps) = resultOf own holding s .outcome ∷ outcomesFrom own (resultOf own holding s .holding) steps
 
 -- "The ledger .. is fed each step and whether it was accepted .. a refused step or a read-back changes nothing in it": it is fed the entries
-unfoldable pub fed : List Step → List Outcome → List (Entry × Bool)
+unfoldable pub fed : List Step → List Outcome → List (AreaAct × Bool)
 fed [] outcomes = []
 fed (s ∷ steps) [] = []
-fed (Enter entry ∷ steps) (o ∷ outcomes) = (entry, isAccepted (o .verdict)) ∷ fed steps outcomes
-fed (ReadBack out ∷ steps) (o ∷ outcomes) = fed steps outcomes
+fed (Step.Enter on ∷ steps) (o ∷ outcomes) = (on, isAccepted (o .verdict)) ∷ fed steps outcomes
+fed (Step.ReadBack out ∷ steps) (o ∷ outcomes) = fed steps outcomes

@@ -1,37 +1,26 @@
 -- Adding a sub-area gives the area one more, under a number that none of it bears, with trees planted by the opening and no residue; its stock is
 -- within what one more sub-area allows.
-use Prim.Native.Nat.{ℕ, _+_, _*_, _≤_}
-use mathlib.Core.Bool.{true, false, _&&_}
-use mathlib.Core.Path.{_≡_, refl}
-use mathlib.Core.List.{List}
-use native.Mathlib.Omega.{arith}
-use borrow.Author.Tests.{not-false, leb-false, ltb-false}
+use Rattle.laws.proofs.{ℕ, _+_, _*_, _≤_, true, false, _&&_, _≡_, refl, List, arith, not-false, leb-false, ltb-false}
 use Rattle.laws.proofs.Lists.{and-right}
-use Rattle.refusals.specs.declared.Verdict.the-variants.{Clear}
-use Rattle.refusals.specs.Refusals.{smallest}
-use Rattle.units.specs.declared.Tenths.{Tenths}
-use Rattle.forest.specs.declared.Forest.{Forest}
-use Rattle.ranges.specs.Ranges.{isArea, isSub, isLand, isPlanted}
-use Rattle.schedules.specs.Schedules.{schedule6}
-use Rattle.table.specs.Participant.{isTable}
-use Rattle.holding.specs.declared.Sub.{Sub}
-use Rattle.holding.specs.declared.Area.{Area}
-use Rattle.holding.specs.declared.Found.{Found}
-use Rattle.holding.specs.declared.Holding.{Holding}
-use Rattle.holding.specs.Holding.{mostSubs, noResidue}
-use Rattle.holding.specs.Find.{findSub}
-use Rattle.holding_look.specs.Standing.{known, lookedUp}
-use Rattle.statement_carried.specs.Carried.{stockForSub}
-use Rattle.step_outcome.specs.Outcomes.{areaCases, placed}
-use Rattle.stocks.specs.Stocks.{subStock}
-use Rattle.step_add.specs.Adding.{newSub, addCases, addedArea, added}
+use Rattle.refusals.specs.{smallest, Verdict}
+use Rattle.units.specs.{Tenths}
+use Rattle.forest.specs.{Forest}
+use Rattle.ranges.specs.{isArea, isSub, isLand, isPlanted}
+use Rattle.schedules.specs.{schedule6}
+use Rattle.table.specs.{isTable}
+use Rattle.holding.specs.{Sub, Area, Found, Holding, mostSubs, noResidue, findSub}
+use Rattle.holding_look.specs.{known, lookedUp}
+use Rattle.statement_carried.specs.{stockForSub}
+use Rattle.step_outcome.specs.{areaCases, placed}
+use Rattle.stocks.specs.{subStock}
+use Rattle.step_add.specs.{newSub, addCases, addedArea, added}
 use Rattle.theorem_keeping.proofs.Tests.{clash}
 use Rattle.theorem_keeping.proofs.Within.{land-within}
 use Rattle.theorem_keeping.proofs.Register.{unknown, register-more}
 use Rattle.theorem_keeping.proofs.Subs.{ResidueKept, SubKept}
 use Rattle.theorem_keeping.proofs.Stocks.{sub-at-most}
 use Rattle.theorem_keeping.proofs.Areas.{AreaKept, AreasKept}
-use Rattle.theorem_keeping.proofs.Answers.{ruled-out}
+use Rattle.refusals.proofs.Laws.{ruled-out}
 use Rattle.theorem_keeping.proofs.Changes.{Changed, change-keeps}
 
 no-residue : (opening latest : ℕ) → ResidueKept opening latest noResidue
@@ -56,7 +45,7 @@ module _ (own : List ℕ) (table : isTable own ≡ true) where
       }
 
   module _ (number sub : ℕ) (land : Tenths) (forest : Forest) (planted : ℕ) where
-    added-changes : (found : Found) (area : Area) → smallest (addCases number (newSub sub land forest planted) found area) ≡ Clear
+    added-changes : (found : Found) (area : Area) → smallest (addCases number (newSub sub land forest planted) found area) ≡ Verdict.Accepted
         → Changed found area (addedArea own schedule6 area (newSub sub land forest planted))
     unfolding addCases areaCases addedArea
     added-changes found area e =

@@ -1,17 +1,9 @@
 -- An area and a holding as registers: what `Kept` says of a holding, read as facts about its areas and their sub-areas, and made from them.
-use Prim.Native.Nat.{ℕ}
-use mathlib.Core.Bool.{true}
-use mathlib.Core.Path.{_≡_}
-use mathlib.Core.List.{List}
-use borrow.Author.Tests.{leb-true, le-leb}
+use Rattle.laws.proofs.{ℕ, true, _≡_, List, leb-true, le-leb}
 use Rattle.laws.proofs.Tests.{AllTrue, all-true, true-all}
-use Rattle.holding.specs.declared.Sub.{Sub}
-use Rattle.holding.specs.declared.Area.{Area}
-use Rattle.holding.specs.declared.Holding.{Holding}
-use Rattle.holding.specs.Holding.{mostAreas, mostSubs, areasOf, subsOf, emptySub, emptyArea}
-use Rattle.statement_carried.specs.Carried.{subCarried, areaCarried, carried}
-use Rattle.theorem_keeping.specs.Tidy.{TidyArea}
-use Rattle.theorem_keeping.specs.Kept.{Kept}
+use Rattle.holding.specs.{Sub, Area, Holding, mostAreas, mostSubs, areasOf, subsOf, emptySub, emptyArea}
+use Rattle.statement_carried.specs.{subCarried, areaCarried, carried}
+use Rattle.theorem_keeping.specs.{TidyArea, Kept}
 use Rattle.theorem_keeping.proofs.Lists.{each-so, each-both, every-each, each-every}
 use Rattle.theorem_keeping.proofs.Register.{Register}
 use Rattle.theorem_keeping.proofs.Fields.{FieldsKept, fields-read, fields-carried}

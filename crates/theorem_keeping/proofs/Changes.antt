@@ -1,20 +1,10 @@
 -- Every step but an opening changes the one area that it looked up: if the verdict is clear, that area stands and is kept, and put back under its
 -- number it leaves the others as they were.
-use Prim.Native.Nat.{ℕ}
-use mathlib.Core.Bool.{true}
-use mathlib.Core.Path.{_≡_, refl, sym}
-use mathlib.Core.List.{List}
-use Rattle.refusals.specs.declared.Verdict.the-variants.{Clear}
-use Rattle.refusals.specs.Refusals.{Case, smallest}
-use Rattle.holding.specs.declared.Area.{Area}
-use Rattle.holding.specs.declared.Holding.{Holding}
-use Rattle.holding.specs.declared.Found.{Found}
-use Rattle.holding.specs.declared.Found.the-variants.{At, Nowhere}
-use Rattle.holding.specs.Holding.{emptyArea}
-use Rattle.holding.specs.Find.{findArea}
-use Rattle.holding_look.specs.Standing.{known, areaAt}
-use Rattle.step_outcome.specs.declared.Report.{Report}
-use Rattle.step_outcome.specs.Outcomes.{accepted, answered, placedAt, placed}
+use Rattle.laws.proofs.{ℕ, true, _≡_, refl, sym, List}
+use Rattle.refusals.specs.{Case, smallest, Verdict}
+use Rattle.holding.specs.{Area, Holding, Found, emptyArea, findArea}
+use Rattle.holding_look.specs.{known, areaAt}
+use Rattle.step_outcome.specs.{Report, accepted, answered, placedAt, placed}
 use Rattle.theorem_keeping.proofs.Tests.{clash}
 use Rattle.theorem_keeping.proofs.Register.{register-at, register-put}
 use Rattle.theorem_keeping.proofs.Areas.{AreaKept, AreasKept}
@@ -32,8 +22,8 @@ module _ (holding : Holding) (kept : AreasKept holding) (number : ℕ) where
   area-found k = go (findArea holding number) refl k
     where
       go : (found : Found) → findArea holding number ≡ found → known found ≡ true → AreaKept (areaAt holding found)
-      go (At i) e k = register-at kept number i emptyArea e
-      go Nowhere e k = clash (sym k)
+      go (Found.At i) e k = register-at kept number i emptyArea e
+      go Found.Nowhere e k = clash (sym k)
 
   area-put : (after : Area) → Changed (findArea holding number) (areaAt holding (findArea holding number)) after
       → AreasKept (placedAt holding (findArea holding number) (holding .count) after)
@@ -42,11 +32,11 @@ module _ (holding : Holding) (kept : AreasKept holding) (number : ℕ) where
     where
       go : (found : Found) → findArea holding number ≡ found → known found ≡ true → after .number ≡ areaAt holding found .number → AreaKept after
           → AreasKept (placedAt holding found (holding .count) after)
-      go (At i) e k same a = register-put kept number i after emptyArea e same a
-      go Nowhere e k same a = clash (sym k)
+      go (Found.At i) e k same a = register-put kept number i after emptyArea e same a
+      go Found.Nowhere e k same a = clash (sym k)
 
   pub change-keeps : (cases : List Case) (report : Report) (after : Area)
-      → (smallest cases ≡ Clear → Changed (findArea holding number) (areaAt holding (findArea holding number)) after)
+      → (smallest cases ≡ Verdict.Accepted → Changed (findArea holding number) (areaAt holding (findArea holding number)) after)
       → AreasKept (placed holding (answered (smallest cases) (accepted report (findArea holding number) (holding .count) after)))
   unfolding placed
   change-keeps cases report after changed =

@@ -1,25 +1,16 @@
 -- A clearing leaves bare land and a residue of its year. The trees were planted from 1900 on and the year is at most 2199, so they are at most 299 years old.
-use Prim.Native.Nat.{ℕ, _≤_}
-use mathlib.Core.Bool.{true, false}
-use mathlib.Core.Path.{_≡_, refl, sym, _∙_}
-use native.Mathlib.Omega.{arith}
-use borrow.Author.Tests.{not-false}
-use Rattle.refusals.specs.declared.Verdict.the-variants.{Clear}
-use Rattle.refusals.specs.Refusals.{smallest}
-use Rattle.ranges.specs.Ranges.{isBare, isYear}
-use Rattle.holding.specs.declared.Sub.{Sub}
-use Rattle.holding.specs.declared.Area.{Area}
-use Rattle.holding.specs.declared.Found.{Found}
-use Rattle.holding.specs.declared.Holding.{Holding}
-use Rattle.holding.specs.Find.{findSub}
-use Rattle.holding_look.specs.Standing.{known, subAt, withSub, lookedUp}
-use Rattle.step_outcome.specs.Outcomes.{areaCases, placed}
-use Rattle.step_clear.specs.Clearing.{clearCases, clearedSub, clearedArea, cleared}
+use Rattle.laws.proofs.{ℕ, _≤_, true, false, _≡_, refl, sym, _∙_, arith, not-false}
+use Rattle.refusals.specs.{smallest, Verdict}
+use Rattle.ranges.specs.{isBare, isYear}
+use Rattle.holding.specs.{Sub, Area, Found, Holding, findSub}
+use Rattle.holding_look.specs.{known, subAt, withSub, lookedUp}
+use Rattle.step_outcome.specs.{areaCases, placed}
+use Rattle.step_clear.specs.{clearCases, clearedSub, clearedArea, cleared}
 use Rattle.theorem_keeping.proofs.Tests.{clash}
 use Rattle.theorem_keeping.proofs.Within.{year-within, planted-within, not-before}
 use Rattle.theorem_keeping.proofs.Subs.{SubKept}
 use Rattle.theorem_keeping.proofs.Areas.{AreasKept}
-use Rattle.theorem_keeping.proofs.Answers.{ruled-out}
+use Rattle.refusals.proofs.Laws.{ruled-out}
 use Rattle.theorem_keeping.proofs.Changes.{Changed, change-keeps}
 use Rattle.theorem_keeping.proofs.SubChanges.{sub-change-keeps}
 
@@ -39,7 +30,7 @@ cleared-sub opening latest year sub ranged begun trees k =
       };
     }
 
-cleared-changes : (number sub year : ℕ) (found : Found) (area : Area) → smallest (clearCases number sub year found area) ≡ Clear
+cleared-changes : (number sub year : ℕ) (found : Found) (area : Area) → smallest (clearCases number sub year found area) ≡ Verdict.Accepted
     → Changed found area (clearedArea area sub year)
 unfolding clearCases areaCases clearedArea clearedSub withSub
 cleared-changes number sub year found area e =

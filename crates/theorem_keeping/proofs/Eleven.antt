@@ -1,35 +1,23 @@
 -- A holding that a statement carries never meets refusal 11: that applies only to an area found whose fields no statement carries.
-use Prim.Native.Nat.{ℕ}
-use mathlib.Core.Bool.{Bool, true, false, not, cond, _&&_, _||_}
-use mathlib.Core.Path.{_≡_, refl, sym, ap}
-use mathlib.Core.List.{List, [], _∷_}
-use native.Mathlib.Omega.{arith}
-use lib.Dec.{eqb}
-use borrow.Author.Tests.{eq-eqb}
-use Rattle.laws.specs.Elements.{every}
-use Rattle.refusals.specs.declared.Refusal.{Refusal}
-use Rattle.refusals.specs.declared.Refusal.the-variants.{CarriedStatement, TableColumn}
-use Rattle.refusals.specs.declared.Verdict.the-variants.{Clear as Accepted, Turned}
-use Rattle.refusals.specs.Refusals.{numberOf, Case, weighed, weighAll, smallest}
+use Rattle.laws.proofs.{ℕ, Bool, true, false, not, cond, _&&_, _||_, _≡_, refl, sym, ap, List, [], _∷_, arith, eqb, eq-eqb}
+use Rattle.laws.specs.{every}
+use Rattle.refusals.specs.{Refusal, numberOf, Case, weighed, weighAll, smallest, Verdict}
 use Rattle.refusals.proofs.Smallest.{turned-stands}
-use Rattle.schedules.specs.Schedules.{schedule6}
-use Rattle.table.specs.Participant.{isTable}
-use Rattle.line_entry.specs.declared.Entry.{Entry}
-use Rattle.line_entry.specs.declared.Entry.the-variants.{Open, Add, Clear, Plant, File, Withdraw, Column}
-use Rattle.holding.specs.declared.Holding.{Holding}
-use Rattle.holding.specs.Find.{findArea}
-use Rattle.holding_look.specs.Standing.{known, areaAt}
-use Rattle.statement_carried.specs.Carried.{fieldsCarried}
-use Rattle.step_outcome.specs.declared.Outcome.{Outcome}
-use Rattle.step_outcome.specs.Outcomes.{answered, uncarried, areaCases, turnedBack}
-use Rattle.step_open.specs.Opening.{openCases, opened}
-use Rattle.step_add.specs.Adding.{addCases, added}
-use Rattle.step_clear.specs.Clearing.{clearCases, cleared}
-use Rattle.step_plant.specs.Planting.{plantCases, planted}
-use Rattle.step_file.specs.Filing.{fileCases, filed}
-use Rattle.step_withdraw.specs.Withdrawing.{withdrawCases, withdrawn}
-use Rattle.step.specs.Steps.{columnTaken, applied, stepped}
-use Rattle.theorem_keeping.specs.Kept.{Kept}
+use Rattle.schedules.specs.{schedule6}
+use Rattle.table.specs.{isTable}
+use Rattle.line_entry.specs.{Act, AreaAct}
+use Rattle.holding.specs.{Holding, findArea}
+use Rattle.holding_look.specs.{known, areaAt, lookedUp}
+use Rattle.statement_carried.specs.{fieldsCarried}
+use Rattle.step_outcome.specs.{Outcome, answered, uncarried, areaCases, turnedBack}
+use Rattle.step_open.specs.{openCases, opened}
+use Rattle.step_add.specs.{addCases, added}
+use Rattle.step_clear.specs.{clearCases, cleared}
+use Rattle.step_plant.specs.{plantCases, planted}
+use Rattle.step_file.specs.{fileCases, filed}
+use Rattle.step_withdraw.specs.{withdrawCases, withdrawn}
+use Rattle.step.specs.{acted, applied, stepped}
+use Rattle.theorem_keeping.specs.{Kept}
 use Rattle.laws.proofs.Lists.{and-left, and-right, both}
 use Rattle.theorem_keeping.proofs.Tests.{clash}
 use Rattle.theorem_keeping.proofs.Fields.{fields-carried}
@@ -44,7 +32,7 @@ spared n c = not (eqb (numberOf (c .refusal)) n) || not (c .applies)
 unfoldable silent : ℕ → List Case → Bool
 silent n cs = every (spared n) cs
 
-never-given : (r : Refusal) (cs : List Case) → silent (numberOf r) cs ≡ true → smallest cs ≡ Turned r → ⊥
+never-given : (r : Refusal) (cs : List Case) → silent (numberOf r) cs ≡ true → smallest cs ≡ Verdict.Refused r → ⊥
 unfolding silent every smallest weighAll weighed
 never-given r [] s e = let z : _≡_ {A = ℕ} 0 1 = cc in omega arith
 never-given r (c ∷ cs) s e = go (c .applies) refl e (never-given r cs (and-right first rest s))
@@ -55,7 +43,7 @@ never-given r (c ∷ cs) s e = go (c .applies) refl e (never-given r cs (and-rig
     rest : Bool
     rest = every (spared (numberOf r)) cs
 
-    go : (t : Bool) → c .applies ≡ t → weighAll (weighed Accepted t (c .refusal)) cs ≡ Turned r → (weighAll Accepted cs ≡ Turned r → ⊥) → ⊥
+    go : (t : Bool) → c .applies ≡ t → weighAll (weighed Verdict.Accepted t (c .refusal)) cs ≡ Verdict.Refused r → (weighAll Verdict.Accepted cs ≡ Verdict.Refused r → ⊥) → ⊥
     go true a e later =
         let given : c .refusal ≡ r = cc (turned-stands (c .refusal) cs) in
         let same : eqb (numberOf (c .refusal)) (numberOf r) ≡ true = eq-eqb _ _ (ap numberOf given) in
@@ -63,9 +51,9 @@ never-given r (c ∷ cs) s e = go (c .applies) refl e (never-given r cs (and-rig
         clash (sym (simp (same, a) at h))
     go false a e later = later e
 
-never-answered : (cs : List Case) (outcome : Outcome) → outcome .verdict ≡ Accepted → silent (numberOf CarriedStatement) cs ≡ true
-    → answered (smallest cs) outcome .verdict ≡ Turned CarriedStatement → ⊥
-never-answered cs outcome c s e = never-given CarriedStatement cs s (refusal-weighed outcome (smallest cs) CarriedStatement c e)
+never-answered : (cs : List Case) (outcome : Outcome) → outcome .verdict ≡ Verdict.Accepted → silent (numberOf Refusal.CarriedStatement) cs ≡ true
+    → answered (smallest cs) outcome .verdict ≡ Verdict.Refused Refusal.CarriedStatement → ⊥
+never-answered cs outcome c s e = never-given Refusal.CarriedStatement cs s (refusal-weighed outcome (smallest cs) Refusal.CarriedStatement c e)
 
 module _ (holding : Holding) (kept : AreasKept holding) where
   found-carried : (number : ℕ) → not (uncarried (findArea holding number) (areaAt holding (findArea holding number))) ≡ true
@@ -77,20 +65,20 @@ module _ (holding : Holding) (kept : AreasKept holding) where
           ap (λ (b : Bool). not (not b)) (fields-carried (areaAt holding (findArea holding number)) (k .subs .room) (k .fields))
       go false e = refl
 
-  applied-never : (own default : List ℕ) (entry : Entry) → applied own default holding entry .verdict ≡ Turned CarriedStatement → ⊥
-  unfolding applied opened openCases added addCases cleared clearCases planted plantCases filed fileCases withdrawn withdrawCases columnTaken areaCases silent every
-  applied-never own default (Open area opening) e = never-answered _ _ refl (both _ true (found-carried area) refl) e
-  applied-never own default (Add area sub land forest year) e = never-answered _ _ refl (both _ true (found-carried area) refl) e
-  applied-never own default (Clear area sub year) e = never-answered _ _ refl (both _ true (found-carried area) refl) e
-  applied-never own default (Plant area sub forest year) e = never-answered _ _ refl (both _ true (found-carried area) refl) e
-  applied-never own default (File area last) e = never-answered _ _ refl (both _ true (found-carried area) refl) e
-  applied-never own default (Withdraw area) e = never-answered _ _ refl (both _ true (found-carried area) refl) e
-  applied-never own default (Column column cells) e = never-answered _ _ refl refl e
+  acted-never : (own : List ℕ) (area : ℕ) (act : Act)
+      → acted own schedule6 (lookedUp holding area) area act .verdict ≡ Verdict.Refused Refusal.CarriedStatement → ⊥
+  unfolding opened openCases added addCases cleared clearCases planted plantCases filed fileCases withdrawn withdrawCases areaCases silent every
+  acted-never own area (Act.Open opening) e = never-answered _ _ refl (both _ true (found-carried area) refl) e
+  acted-never own area (Act.Add sub land forest year) e = never-answered _ _ refl (both _ true (found-carried area) refl) e
+  acted-never own area (Act.Clear sub year) e = never-answered _ _ refl (both _ true (found-carried area) refl) e
+  acted-never own area (Act.Plant sub forest year) e = never-answered _ _ refl (both _ true (found-carried area) refl) e
+  acted-never own area (Act.File last) e = never-answered _ _ refl (both _ true (found-carried area) refl) e
+  acted-never own area Act.Withdraw e = never-answered _ _ refl (both _ true (found-carried area) refl) e
 
-pub never-eleven : (own : List ℕ) (holding : Holding) (entry : Entry) → Kept holding → stepped own holding entry .verdict ≡ Turned CarriedStatement → ⊥
-unfolding stepped
-never-eleven own holding entry kept e = go (isTable own) e
+pub never-eleven : (own : List ℕ) (holding : Holding) (on : AreaAct) → Kept holding → stepped own holding on .verdict ≡ Verdict.Refused Refusal.CarriedStatement → ⊥
+unfolding stepped applied
+never-eleven own holding on kept e = go (isTable own) e
   where
-    go : (t : Bool) → cond t (applied own schedule6 holding entry) (turnedBack TableColumn) .verdict ≡ Turned CarriedStatement → ⊥
-    go true e = applied-never holding (kept-areas holding kept) own schedule6 entry e
+    go : (t : Bool) → cond t (applied own schedule6 holding on) (turnedBack Refusal.TableColumn) .verdict ≡ Verdict.Refused Refusal.CarriedStatement → ⊥
+    go true e = acted-never holding (kept-areas holding kept) own (on .area) (on .act) e
     go false e = let z : _≡_ {A = ℕ} 0 1 = cc in omega arith

@@ -1,15 +1,9 @@
 -- The test of an area's own fields, read as facts about its numbers, and made from them.
-use Prim.Native.Nat.{ℕ, _+_, _*_, _≤_}
-use mathlib.Core.Bool.{Bool, true, _||_}
-use mathlib.Core.Path.{_≡_}
-use native.Mathlib.Omega.{arith}
-use lib.Dec.{eqb}
-use borrow.Author.Tests.{leb-true, le-leb}
+use Rattle.laws.proofs.{ℕ, _+_, _*_, _≤_, Bool, true, _||_, _≡_, arith, eqb, leb-true, le-leb}
 use Rattle.laws.proofs.Tests.{AllTrue, all-true, true-all}
-use Rattle.ranges.specs.Ranges.{lastYear, isArea, isYear}
-use Rattle.holding.specs.declared.Area.{Area}
-use Rattle.holding.specs.Holding.{mostSubs}
-use Rattle.statement_carried.specs.Carried.{stockForSub, receivedForReturn, yearsCarried, amountsCarried, fieldsCarried}
+use Rattle.ranges.specs.{lastYear, isArea, isYear}
+use Rattle.holding.specs.{Area, mostSubs}
+use Rattle.statement_carried.specs.{stockForSub, receivedForReturn, yearsCarried, amountsCarried, fieldsCarried}
 use Rattle.theorem_keeping.proofs.Tests.{if-read, if-so, just-when-read, just-when}
 
 -- an area's years, from its opening to the open year, and how many returns were filed

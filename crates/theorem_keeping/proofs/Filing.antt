@@ -1,39 +1,30 @@
 -- A return opens the year after its last one. The stock is the sub-areas' own; what is received is at most 10^9 tonnes more, and no more is due than
 -- the balance.
-use Prim.Native.Nat.{ℕ, _+_, _*_, _≤_}
-use mathlib.Core.Bool.{true, false}
-use mathlib.Core.Path.{_≡_, refl, sym, _∙_}
-use mathlib.Core.List.{List}
-use native.Mathlib.Omega.{arith}
-use borrow.Author.Tests.{not-false}
-use Rattle.refusals.specs.declared.Verdict.the-variants.{Clear}
-use Rattle.refusals.specs.Refusals.{smallest}
-use Rattle.units.specs.declared.Change.{Change}
-use Rattle.units.specs.declared.Change.the-variants.{Gain, Loss}
-use Rattle.ranges.specs.Ranges.{isYear}
-use Rattle.schedules.specs.Schedules.{schedule6}
-use Rattle.table.specs.Participant.{isTable}
-use Rattle.holding.specs.declared.Area.{Area}
-use Rattle.holding.specs.declared.Found.{Found}
-use Rattle.holding.specs.declared.Holding.{Holding}
-use Rattle.holding_look.specs.Standing.{known, balanceOf, lookedUp}
-use Rattle.statement_carried.specs.Carried.{receivedForReturn}
-use Rattle.step_outcome.specs.Outcomes.{areaCases, placed}
-use Rattle.step_file.specs.Filing.{fileCases, receivedOf, dueOf, changeOf, filedArea, filed}
+use Rattle.laws.proofs.{ℕ, _+_, _*_, _≤_, true, false, _≡_, refl, sym, _∙_, List, arith, not-false}
+use Rattle.refusals.specs.{smallest, Verdict}
+use Rattle.units.specs.{Change}
+use Rattle.ranges.specs.{isYear}
+use Rattle.schedules.specs.{schedule6}
+use Rattle.table.specs.{isTable}
+use Rattle.holding.specs.{Area, Found, Holding}
+use Rattle.holding_look.specs.{known, balanceOf, lookedUp}
+use Rattle.statement_carried.specs.{receivedForReturn}
+use Rattle.step_outcome.specs.{areaCases, placed}
+use Rattle.step_file.specs.{fileCases, receivedOf, dueOf, changeOf, filedArea, filed}
 use Rattle.theorem_keeping.proofs.Tests.{clash}
 use Rattle.theorem_keeping.proofs.Within.{year-within, not-before}
 use Rattle.theorem_keeping.proofs.Stocks.{sizeOf, stock-at-most, return-at-most}
 use Rattle.theorem_keeping.proofs.Areas.{AreaKept, AreasKept}
-use Rattle.theorem_keeping.proofs.Answers.{ruled-out}
+use Rattle.refusals.proofs.Laws.{ruled-out}
 use Rattle.theorem_keeping.proofs.Changes.{Changed, change-keeps}
 
 received-at-most : (change : Change) → receivedOf change ≤ sizeOf change
-received-at-most (Gain t) = omega arith
-received-at-most (Loss t) = omega arith
+received-at-most (Change.Gain t) = omega arith
+received-at-most (Change.Loss t) = omega arith
 
 due-at-most : (change : Change) (balance : ℕ) → dueOf change balance ≤ balance
-due-at-most (Gain t) balance = omega arith
-due-at-most (Loss t) balance = omega arith
+due-at-most (Change.Gain t) balance = omega arith
+due-at-most (Change.Loss t) balance = omega arith
 
 module _ (own : List ℕ) (table : isTable own ≡ true) (area : Area) (k : AreaKept area) where
   filed-area : (last : ℕ) → isYear last ≡ true → area .«open_year» ≤ last → area .withdrawn ≡ false → AreaKept (filedArea own schedule6 area last)
@@ -67,7 +58,7 @@ module _ (own : List ℕ) (table : isTable own ≡ true) (area : Area) (k : Area
         subs = k .subs;
       }
 
-filed-changes : (own : List ℕ) → isTable own ≡ true → (number last : ℕ) (found : Found) (area : Area) → smallest (fileCases number last found area) ≡ Clear
+filed-changes : (own : List ℕ) → isTable own ≡ true → (number last : ℕ) (found : Found) (area : Area) → smallest (fileCases number last found area) ≡ Verdict.Accepted
     → Changed found area (filedArea own schedule6 area last)
 unfolding fileCases areaCases filedArea
 filed-changes own table number last found area e =

@@ -1,15 +1,9 @@
 -- A property of each element, read at a place and kept by a store or by one element more; the test `every` is such a property; and `distinct`,
 -- which looks at numbers alone, is kept where they stay.
-use Prim.Native.Nat.{ℕ, zero, suc, _<_}
-use mathlib.Core.Bool.{Bool, true, _||_}
-use mathlib.Core.Path.{_≡_, refl, sym, ap, _∙_}
-use mathlib.Core.List.{List, [], _∷_, _++_, map}
-use native.Mathlib.Omega.{arith}
-use lib.Dec.{eqb}
-use lib.ListN.{length, getD, set}
-use Rattle.laws.specs.Elements.{some, every, distinct}
+use Rattle.laws.proofs.{ℕ, zero, suc, _<_, Bool, true, _||_, _≡_, refl, sym, ap, _∙_, List, [], _∷_, _++_, map, arith, eqb, length, getD, set}
+use Rattle.laws.specs.{some, every, distinct}
 use Rattle.laws.proofs.Lists.{and-left, and-right, both}
-use Rattle.theorem_keeping.specs.Tidy.{Each}
+use Rattle.theorem_keeping.specs.{Each}
 
 module _ {A : Type 0} (P : A → Type 0) where
   pub each-at : (l : List A) (i : ℕ) (d : A) → i < length l → Each P l → P (getD l i d)

@@ -1,25 +1,16 @@
 -- A planting gives bare land trees of its year, which becomes the latest year; the residue stays.
-use Prim.Native.Nat.{ℕ, _≤_}
-use mathlib.Core.Bool.{true, false}
-use mathlib.Core.Path.{_≡_, refl}
-use native.Mathlib.Omega.{arith}
-use borrow.Author.Tests.{not-false}
-use Rattle.refusals.specs.declared.Verdict.the-variants.{Clear}
-use Rattle.refusals.specs.Refusals.{smallest}
-use Rattle.forest.specs.declared.Forest.{Forest}
-use Rattle.ranges.specs.Ranges.{isBare, isYear}
-use Rattle.holding.specs.declared.Sub.{Sub}
-use Rattle.holding.specs.declared.Area.{Area}
-use Rattle.holding.specs.declared.Found.{Found}
-use Rattle.holding.specs.declared.Holding.{Holding}
-use Rattle.holding.specs.Find.{findSub}
-use Rattle.holding_look.specs.Standing.{known, subAt, withSub, lookedUp}
-use Rattle.step_outcome.specs.Outcomes.{areaCases, placed}
-use Rattle.step_plant.specs.Planting.{plantCases, plantedSub, plantedArea, planted}
+use Rattle.laws.proofs.{ℕ, _≤_, true, false, _≡_, refl, arith, not-false}
+use Rattle.refusals.specs.{smallest, Verdict}
+use Rattle.forest.specs.{Forest}
+use Rattle.ranges.specs.{isBare, isYear}
+use Rattle.holding.specs.{Sub, Area, Found, Holding, findSub}
+use Rattle.holding_look.specs.{known, subAt, withSub, lookedUp}
+use Rattle.step_outcome.specs.{areaCases, placed}
+use Rattle.step_plant.specs.{plantCases, plantedSub, plantedArea, planted}
 use Rattle.theorem_keeping.proofs.Within.{year-within, planted-so, not-before}
 use Rattle.theorem_keeping.proofs.Subs.{SubKept, residue-later}
 use Rattle.theorem_keeping.proofs.Areas.{AreasKept}
-use Rattle.theorem_keeping.proofs.Answers.{ruled-out}
+use Rattle.refusals.proofs.Laws.{ruled-out}
 use Rattle.theorem_keeping.proofs.Changes.{Changed, change-keeps}
 use Rattle.theorem_keeping.proofs.SubChanges.{sub-change-keeps}
 
@@ -36,7 +27,7 @@ planted-sub opening latest year forest sub ranged grows trees k =
       residue = residue-later opening latest year grows (sub .residue) (k .residue);
     }
 
-planted-changes : (number sub : ℕ) (forest : Forest) (year : ℕ) (found : Found) (area : Area) → smallest (plantCases number sub forest year found area) ≡ Clear
+planted-changes : (number sub : ℕ) (forest : Forest) (year : ℕ) (found : Found) (area : Area) → smallest (plantCases number sub forest year found area) ≡ Verdict.Accepted
     → Changed found area (plantedArea area sub forest year)
 unfolding plantCases areaCases plantedArea plantedSub withSub
 planted-changes number sub forest year found area e =

@@ -1,28 +1,20 @@
 -- A register: an array whose first places hold numbered things, the areas of a holding or the sub-areas of an area. What a search finds in it is good;
 -- it stays a register where a thing is put back under its number, and where one is added whose number a search did not find.
-use Prim.Native.Nat.{ℕ, zero, suc, _+_, _-_, _≤_, _<_}
-use mathlib.Core.Bool.{true, false}
-use mathlib.Core.Path.{_≡_, refl, sym, ap, _∙_}
-use mathlib.Core.List.{List, [], _∷_, _++_}
-use native.Mathlib.Numerals.{add-one}
-use native.Mathlib.Omega.{arith}
-use lib.ListN.{length, getD, set, take, drop, replicate, length-take, length-set, take-append-drop}
-use lib.Seq.{drop-set-lt, drop-drop, take-set-lt, take-suc-set, getD-take, map-set-same}
+use Rattle.laws.proofs.{ℕ, zero, suc, _+_, _-_, _≤_, _<_, true, false, _≡_, refl, sym, ap, _∙_, List, [], _∷_, _++_, add-one, arith, length, getD, set, take, drop, replicate, length-take, length-set, take-append-drop, drop-drop, getD-take}
+use lib.Seq.{drop-set-lt, take-set-lt, take-suc-set, map-set-same}
 use Rattle.laws.proofs.Distinct.{distinct-more}
-use Rattle.laws.specs.Elements.{distinct}
-use Rattle.holding.specs.declared.Found.{Found}
-use Rattle.holding.specs.declared.Found.the-variants.{At, Nowhere}
-use Rattle.holding.specs.Find.{placeFrom}
+use Rattle.laws.specs.{distinct}
+use Rattle.holding.specs.{Found, placeFrom}
 use Rattle.holding.proofs.Stands.{stands, stands-nowhere}
-use Rattle.holding_look.specs.Standing.{known}
-use Rattle.theorem_keeping.specs.Tidy.{Tidy, Each}
+use Rattle.holding_look.specs.{known}
+use Rattle.theorem_keeping.specs.{Tidy, Each}
 use Rattle.theorem_keeping.proofs.Tests.{clash}
 use Rattle.theorem_keeping.proofs.Lists.{each-at, each-set, each-more, each-so, distinct-same}
 
 -- what a search did not find stands nowhere
-pub unknown : (found : Found) → known found ≡ false → found ≡ Nowhere
-unknown (At i) e = clash e
-unknown Nowhere e = refl
+pub unknown : (found : Found) → known found ≡ false → found ≡ Found.Nowhere
+unknown (Found.At i) e = clash e
+unknown Found.Nowhere e = refl
 
 module _ {A : Type 0} (empty : A) (places count : ℕ) (l : List A) (tidy : Tidy empty places count l) (a : A) where
   pub tidy-put : (i : ℕ) → i < count → Tidy empty places count (set l i a)
@@ -59,7 +51,7 @@ pub record Register {A : Type 0} (numberOf : A → ℕ) (empty : A) (Good : A �
   pub each : Each Good (take count l)
   pub apart : distinct numberOf (take count l) ≡ true
 
-module _ {A : Type 0} (numberOf : A → ℕ) (n i count : ℕ) (l : List A) (e : placeFrom numberOf n 0 (take count l) ≡ At i) where
+module _ {A : Type 0} (numberOf : A → ℕ) (n i count : ℕ) (l : List A) (e : placeFrom numberOf n 0 (take count l) ≡ Found.At i) where
   pub found-inside : (i < count) × (i < length l)
   found-inside =
       let s = stands numberOf n 0 i (take count l) e in
@@ -68,12 +60,12 @@ module _ {A : Type 0} (numberOf : A → ℕ) (n i count : ℕ) (l : List A) (e :
       (omega (arith, length-take count l), omega (arith, length-take count l))
 
 module _ {A : Type 0} {numberOf : A → ℕ} {empty : A} {Good : A → Type 0} {places count : ℕ} {l : List A} (register : Register numberOf empty Good places count l) where
-  pub register-at : (n i : ℕ) (d : A) → placeFrom numberOf n 0 (take count l) ≡ At i → Good (getD l i d)
+  pub register-at : (n i : ℕ) (d : A) → placeFrom numberOf n 0 (take count l) ≡ Found.At i → Good (getD l i d)
   register-at n i d e =
       let inside = found-inside numberOf n i count l e in
       rw (← getD-take count l i d (inside .0)) (each-at Good (take count l) i d (omega (arith, length-take count l)) (register .each))
 
-  pub register-put : (n i : ℕ) (a d : A) → placeFrom numberOf n 0 (take count l) ≡ At i → numberOf a ≡ numberOf (getD l i d) → Good a
+  pub register-put : (n i : ℕ) (a d : A) → placeFrom numberOf n 0 (take count l) ≡ Found.At i → numberOf a ≡ numberOf (getD l i d) → Good a
       → Register numberOf empty Good places count (set l i a)
   register-put n i a d e same good =
       let inside = found-inside numberOf n i count l e in
@@ -86,7 +78,7 @@ module _ {A : Type 0} {numberOf : A → ℕ} {empty : A} {Good : A → Type 0} {
         apart = rw store (distinct-same numberOf (take count l) _ (map-set-same numberOf (take count l) i a d there) (register .apart));
       }
 
-  pub register-more : (a : A) → placeFrom numberOf (numberOf a) 0 (take count l) ≡ Nowhere → count < places → Good a
+  pub register-more : (a : A) → placeFrom numberOf (numberOf a) 0 (take count l) ≡ Found.Nowhere → count < places → Good a
       → Register numberOf empty Good places (count + 1) (set l count a)
   register-more a e free good =
       let long : length l ≡ places = register .tidy .long in

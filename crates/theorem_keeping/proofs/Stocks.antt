@@ -1,34 +1,20 @@
 -- The bounds of stocks and changes. A rate is at most 30,000 and a share at most 10, so a sub-area of at most 100,000 tenths has trees of at most
 -- 3×10^10 kg and residue of at most that; sixteen have at most 96×10^10 kg, and between two such stocks lie at most 960,000,000 tonnes.
-use Prim.Native.Nat.{ℕ, _+_, _-_, _*_, _≤_}
-use mathlib.Core.Bool.{Bool, true, false, cond}
-use mathlib.Core.Path.{_≡_, refl}
-use mathlib.Core.List.{List, [], _∷_}
+use Rattle.laws.proofs.{ℕ, _+_, _-_, _*_, _≤_, Bool, true, false, cond, _≡_, refl, List, [], _∷_, arith, leb, length, length-take}
 use native.Mathlib.Nat.{mul-le-mul, mul-suc}
-use native.Mathlib.Omega.{arith}
-use lib.Dec.{leb}
-use lib.ListN.{length, length-take}
-use Rattle.laws.specs.Elements.{sumBy}
-use Rattle.laws.specs.Lists.{eachAtMost}
+use Rattle.laws.specs.{sumBy, eachAtMost}
 use Rattle.laws.proofs.Lists.{ceiling-at}
-use Rattle.units.specs.declared.Kilograms.{Kilograms}
-use Rattle.units.specs.declared.Change.{Change}
-use Rattle.units.specs.declared.Change.the-variants.{Gain, Loss}
-use Rattle.units.specs.Units.{treesOf, residueOf}
-use Rattle.units.specs.Tonnes.{tonnes, changeBetween}
-use Rattle.ranges.specs.Ranges.{mostLand}
-use Rattle.schedules.specs.declared.Kind.the-variants.{Stock, Residue}
-use Rattle.schedules.specs.Schedules.{cellCeiling, schedule6}
-use Rattle.table.specs.Participant.{isTable}
-use Rattle.rates.specs.Decay.{shares, shareAfter}
+use Rattle.units.specs.{Kilograms, Change, treesOf, residueOf, tonnes, changeBetween}
+use Rattle.ranges.specs.{mostLand}
+use Rattle.schedules.specs.{cellCeiling, schedule6, Kind}
+use Rattle.table.specs.{isTable}
+use Rattle.rates.specs.{shares, shareAfter}
 use Rattle.rates.proofs.Ceiling.{six-at-most}
-use Rattle.holding.specs.declared.Sub.{Sub}
-use Rattle.holding.specs.declared.Area.{Area}
-use Rattle.holding.specs.Holding.{mostSubs, subsOf}
-use Rattle.statement_carried.specs.Carried.{stockForSub}
-use Rattle.step_file.specs.Filing.{changeOf}
-use Rattle.stocks.specs.Stocks.{treesOn, residueOn, subStock, areaStock}
-use Rattle.theorem_keeping.specs.Tidy.{Each}
+use Rattle.holding.specs.{Sub, Area, mostSubs, subsOf}
+use Rattle.statement_carried.specs.{stockForSub}
+use Rattle.step_file.specs.{changeOf}
+use Rattle.stocks.specs.{treesOn, residueOn, subStock, areaStock}
+use Rattle.theorem_keeping.specs.{Each}
 use Rattle.theorem_keeping.proofs.Within.{land-within}
 use Rattle.theorem_keeping.proofs.Lists.{each-so}
 use Rattle.theorem_keeping.proofs.Areas.{AreaKept}
@@ -51,13 +37,13 @@ module _ (own : List ℕ) (table : isTable own ≡ true) where
     pub trees-at-most : treesOn own schedule6 sub y .0 ≤ 30000000000
     unfolding treesOn treesOf
     trees-at-most =
-        let rate = six-at-most own Stock (sub .forest) (y - sub .planted) table in
+        let rate = six-at-most own Kind.Stock (sub .forest) (y - sub .planted) table in
         omega (arith, product-at-most _ _ 10 mostLand cellCeiling 10 land rate (omega arith))
 
     pub residue-at-most : residueOn own schedule6 sub y .0 ≤ 30000000000
     unfolding residueOn residueOf
     residue-at-most =
-        let rate = six-at-most own Residue (sub .residue .forest) (sub .residue .age) table in
+        let rate = six-at-most own Kind.Residue (sub .residue .forest) (sub .residue .age) table in
         omega (arith, product-at-most _ _ _ mostLand cellCeiling 10 land rate (share-at-most (y - sub .residue .year)))
 
     pub sub-at-most : subStock own schedule6 sub y .0 ≤ stockForSub
@@ -72,15 +58,15 @@ module _ (own : List ℕ) (table : isTable own ≡ true) where
 
 -- the size of a change, in tonnes
 abbrev pub sizeOf : Change → ℕ
-sizeOf (Gain tonnes) = tonnes
-sizeOf (Loss tonnes) = tonnes
+sizeOf (Change.Gain tonnes) = tonnes
+sizeOf (Change.Loss tonnes) = tonnes
 
 pub change-at-most : (opening closing : Kilograms) → opening .0 ≤ stockForSub * mostSubs → closing .0 ≤ stockForSub * mostSubs
     → sizeOf (changeBetween opening closing) ≤ 960000000
 unfolding changeBetween tonnes
 change-at-most opening closing p q = go (leb (opening .0) (closing .0))
   where
-    go : (t : Bool) → sizeOf (cond t (Gain (tonnes (closing .0 - opening .0))) (Loss (tonnes (opening .0 - closing .0)))) ≤ 960000000
+    go : (t : Bool) → sizeOf (cond t (Change.Gain (tonnes (closing .0 - opening .0))) (Change.Loss (tonnes (opening .0 - closing .0)))) ≤ 960000000
     go true = omega arith
     go false = omega arith
 

@@ -1,16 +1,8 @@
 -- A clearing or a planting changes the one sub-area that it looked up. The latest year grows, which every other sub-area bears.
-use Prim.Native.Nat.{ℕ, _≤_}
-use mathlib.Core.Bool.{Bool, true, false, _||_}
-use mathlib.Core.Path.{_≡_, refl, sym}
-use lib.Dec.{eqb}
-use Rattle.ranges.specs.Ranges.{isYear}
-use Rattle.holding.specs.declared.Sub.{Sub}
-use Rattle.holding.specs.declared.Area.{Area}
-use Rattle.holding.specs.declared.Found.{Found}
-use Rattle.holding.specs.declared.Found.the-variants.{At, Nowhere}
-use Rattle.holding.specs.Holding.{emptySub}
-use Rattle.holding.specs.Find.{findSub}
-use Rattle.holding_look.specs.Standing.{known, subAt, withSub, subsWith}
+use Rattle.laws.proofs.{ℕ, _≤_, Bool, true, false, _||_, _≡_, refl, sym, eqb}
+use Rattle.ranges.specs.{isYear}
+use Rattle.holding.specs.{Sub, Area, Found, emptySub, findSub}
+use Rattle.holding_look.specs.{known, subAt, withSub, subsWith}
 use Rattle.theorem_keeping.proofs.Tests.{clash}
 use Rattle.theorem_keeping.proofs.Register.{register-at, register-put, register-so}
 use Rattle.theorem_keeping.proofs.Subs.{SubKept, sub-later}
@@ -32,16 +24,16 @@ or-so false b e = e
 module _ (area : Area) (k : AreaKept area) (number : ℕ) where
   sub-found : (found : Found) → findSub area number ≡ found → known found ≡ true → SubKept (area .opening) (area .latest) (subAt area found)
   unfolding findSub subAt
-  sub-found (At i) e t = register-at (k .subs) number i emptySub e
-  sub-found Nowhere e t = clash (sym t)
+  sub-found (Found.At i) e t = register-at (k .subs) number i emptySub e
+  sub-found Found.Nowhere e t = clash (sym t)
 
   sub-put : (found : Found) (after : Sub) (year : ℕ) → findSub area number ≡ found → SubChanged area found after year
       → SubsKept (area .opening) year (area .count) (subsWith (area .subs) found after)
   unfolding findSub subAt
-  sub-put (At i) after year e c =
+  sub-put (Found.At i) after year e c =
       let later = register-so (k .subs) (SubKept (area .opening) year) (sub-later (area .opening) (area .latest) year (c .grows)) in
-      register-put later number i after emptySub e (c .number) (c .keeps (sub-found (At i) e refl))
-  sub-put Nowhere after year e c = clash (sym (c .stands))
+      register-put later number i after emptySub e (c .number) (c .keeps (sub-found (Found.At i) e refl))
+  sub-put Found.Nowhere after year e c = clash (sym (c .stands))
 
   pub sub-change-keeps : (after : Sub) (year : ℕ) → SubChanged area (findSub area number) after year → AreaKept (withSub area (findSub area number) after year)
   unfolding withSub

@@ -1,19 +1,11 @@
 -- The test of a sub-area of an area, read as facts and made from them; it looks at the area's opening and latest year alone, and stands
 -- where the latest year grows.
-use Prim.Native.Nat.{ℕ, _≤_, max}
-use mathlib.Core.Bool.{Bool, true, false, cond}
-use mathlib.Core.Path.{_≡_, refl, sym}
-use mathlib.Core.List.{[], _∷_}
-use native.Mathlib.Omega.{arith}
-use lib.Dec.{eqb, leb}
-use borrow.Author.Tests.{leb-true, le-leb, eqb-true, eq-eqb}
-use Rattle.laws.specs.Tests.{allOf}
+use Rattle.laws.proofs.{ℕ, _≤_, max, Bool, true, false, cond, _≡_, refl, sym, [], _∷_, arith, eqb, leb, leb-true, le-leb, eqb-true, eq-eqb}
+use Rattle.laws.specs.{allOf}
 use Rattle.laws.proofs.Tests.{AllTrue, all-true, true-all}
-use Rattle.ranges.specs.Ranges.{isBare, isSub, isLand, isPlanted}
-use Rattle.holding.specs.declared.Residue.{Residue}
-use Rattle.holding.specs.declared.Sub.{Sub}
-use Rattle.holding.specs.declared.Area.{Area}
-use Rattle.statement_carried.specs.Carried.{residueCarried, subCarried}
+use Rattle.ranges.specs.{isBare, isSub, isLand, isPlanted}
+use Rattle.holding.specs.{Residue, Sub, Area}
+use Rattle.statement_carried.specs.{residueCarried, subCarried}
 use Rattle.theorem_keeping.proofs.Tests.{clash}
 
 pub record ResidueKept (opening latest : ℕ) (residue : Residue) : Type 0 where

@@ -1,10 +1,5 @@
 -- Tests joined: one holds where another does, or just when it does.
-use Prim.Native.Nat.{ℕ}
-use mathlib.Core.Bool.{Bool, true, false, not, _||_, Bool·beq}
-use mathlib.Core.Path.{_≡_, refl, sym}
-use native.Mathlib.Omega.{arith}
-use lib.Dec.{eqb}
-use borrow.Author.Tests.{eqb-true, eqb-false, eq-eqb, ne-eqb}
+use Rattle.laws.proofs.{ℕ, Bool, true, false, not, _||_, Bool·beq, _≡_, refl, sym, arith, eqb, eqb-true, eqb-false, eq-eqb, ne-eqb}
 
 pub clash : {P : Type 0} → _≡_ {A = Bool} true false → P
 clash e = absurd (let z : _≡_ {A = ℕ} 0 1 = cc in omega arith)

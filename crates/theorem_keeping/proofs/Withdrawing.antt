@@ -1,18 +1,12 @@
 -- A withdrawal surrenders what is left, so that all that was received is surrendered.
-use Prim.Native.Nat.{ℕ, _≤_}
-use mathlib.Core.Path.{_≡_, refl}
-use native.Mathlib.Omega.{arith}
-use borrow.Author.Tests.{not-false}
-use Rattle.refusals.specs.declared.Verdict.the-variants.{Clear}
-use Rattle.refusals.specs.Refusals.{smallest}
-use Rattle.holding.specs.declared.Area.{Area}
-use Rattle.holding.specs.declared.Found.{Found}
-use Rattle.holding.specs.declared.Holding.{Holding}
-use Rattle.holding_look.specs.Standing.{known, lookedUp}
-use Rattle.step_outcome.specs.Outcomes.{areaCases, placed}
-use Rattle.step_withdraw.specs.Withdrawing.{withdrawCases, withdrawnArea, withdrawn}
+use Rattle.laws.proofs.{ℕ, _≤_, _≡_, refl, arith, not-false}
+use Rattle.refusals.specs.{smallest, Verdict}
+use Rattle.holding.specs.{Area, Found, Holding}
+use Rattle.holding_look.specs.{known, lookedUp}
+use Rattle.step_outcome.specs.{areaCases, placed}
+use Rattle.step_withdraw.specs.{withdrawCases, withdrawnArea, withdrawn}
 use Rattle.theorem_keeping.proofs.Areas.{AreaKept, AreasKept}
-use Rattle.theorem_keeping.proofs.Answers.{ruled-out}
+use Rattle.refusals.proofs.Laws.{ruled-out}
 use Rattle.theorem_keeping.proofs.Changes.{Changed, change-keeps}
 
 withdrawn-area : (area : Area) → AreaKept area → AreaKept (withdrawnArea area)
@@ -29,7 +23,7 @@ withdrawn-area area k =
       subs = k .subs;
     }
 
-withdrawn-changes : (number : ℕ) (found : Found) (area : Area) → smallest (withdrawCases number found area) ≡ Clear → Changed found area (withdrawnArea area)
+withdrawn-changes : (number : ℕ) (found : Found) (area : Area) → smallest (withdrawCases number found area) ≡ Verdict.Accepted → Changed found area (withdrawnArea area)
 unfolding withdrawCases areaCases withdrawnArea
 withdrawn-changes number found area e =
     let out = ruled-out (withdrawCases number found area) e in

@@ -1,13 +1,9 @@
 -- The ranges of fields, read as bounds.
-use Prim.Native.Nat.{ℕ, _≤_}
-use mathlib.Core.Bool.{Bool, true, false, not, _&&_, _||_}
-use mathlib.Core.Path.{_≡_}
-use lib.Dec.{eqb, leb, ltb}
-use borrow.Author.Tests.{leb-true, le-leb, ltb-false}
+use Rattle.laws.proofs.{ℕ, _≤_, Bool, true, false, not, _&&_, _||_, _≡_, eqb, leb, ltb, leb-true, le-leb, ltb-false}
 use Rattle.laws.proofs.Elements.{or-false-left, or-false-right}
-use Rattle.forest.specs.declared.Forest.{Forest}
-use Rattle.units.specs.declared.Tenths.{Tenths}
-use Rattle.ranges.specs.Ranges.{firstYear, lastYear, firstPlanted, leastLand, mostLand, isBare, isYear, isLand, isPlanted}
+use Rattle.forest.specs.{Forest}
+use Rattle.units.specs.{Tenths}
+use Rattle.ranges.specs.{firstYear, lastYear, firstPlanted, leastLand, mostLand, isBare, isYear, isLand, isPlanted}
 use Rattle.laws.proofs.Lists.{and-left, and-right, both}
 use Rattle.theorem_keeping.proofs.Tests.{clash}
 

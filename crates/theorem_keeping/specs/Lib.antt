@@ -1,2 +1,5 @@
-pub mod Tidy
-pub mod Kept
+pub mod Unused
+pub mod Reached
+pub use Unused.{Tidy, TidyArea, TidyHolding}
+unfoldable pub use Unused.{Each}
+pub use Reached.{Kept}

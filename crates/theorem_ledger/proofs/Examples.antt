@@ -1,28 +1,16 @@
 -- The ledger tried on the papers' examples: antt computes each.
-use Prim.Native.Nat.{ℕ}
-use mathlib.Core.Path.{_≡_, refl}
-use mathlib.Core.Bool.{Bool, true, false}
-use mathlib.Core.List.{List, [], _∷_, map}
+use Rattle.laws.proofs.{ℕ, _≡_, refl, Bool, true, false, List, [], _∷_, map}
 use lib.IntN.{ℤ, pos, negsuc}
-use Rattle.laws.specs.Lists.{sumOf}
-use Rattle.laws.specs.Elements.{sumBy}
-use Rattle.units.specs.Units.{treesOf, residueOf}
-use Rattle.units.specs.Tonnes.{tonnes, nearestTonne}
-use Rattle.forest.specs.declared.Region.the-variants.{Auckland}
-use Rattle.forest.specs.declared.Forest.{Forest}
-use Rattle.forest.specs.declared.Forest.the-variants.{Radiata, DouglasFir, ExoticHardwoods}
-use Rattle.schedules.specs.Columns.{joined, placesFrom}
-use Rattle.schedules.specs.Cells.{stock6, residue6}
-use Rattle.schedules.specs.Schedules.{placeSix, schedule6}
-use Rattle.table_parts.specs.Parts.{lengthOf}
-use Rattle.table_lent.specs.Lent.{ownColumn}
-use Rattle.rates.specs.Rates.{consulted, cellAt, rateSix}
-use Rattle.rates.specs.Decay.{shareAfter}
-use Rattle.line_entry.specs.declared.Entry.{Entry}
-use Rattle.line_entry.specs.declared.Entry.the-variants.{Open, Add, Clear, Plant, File, Withdraw}
-use Rattle.stocks.specs.Stocks.{treesOn, residueOn, subStock}
-use Rattle.theorem_ledger.specs.Keyed.{change}
-use Rattle.theorem_ledger.specs.Ledger.{Row, entered, noted, ledgerOf}
+use Rattle.laws.specs.{sumOf, sumBy}
+use Rattle.units.specs.{treesOf, residueOf, tonnes, nearestTonne}
+use Rattle.forest.specs.{Forest, Region}
+use Rattle.schedules.specs.{joined, placesFrom, stock6, residue6, placeSix, schedule6}
+use Rattle.table_parts.specs.{lengthOf}
+use Rattle.table_lent.specs.{ownColumn}
+use Rattle.rates.specs.{consulted, cellAt, rateSix, shareAfter}
+use Rattle.line_entry.specs.{Act, AreaAct, on}
+use Rattle.stocks.specs.{treesOn, residueOn, subStock}
+use Rattle.theorem_ledger.specs.{change, Row, entered, noted, ledgerOf}
 
 -- the figures of a row
 pub record Figures : Type 0 where
@@ -45,18 +33,18 @@ figures row = record {
 
 pub record Example : Type 0 where
   pub table : List ℕ
-  pub steps : List (Entry × Bool)
+  pub steps : List (AreaAct × Bool)
   pub area : Figures
 
-abbrev taken : Entry → Entry × Bool
-taken entry = (entry, true)
+abbrev taken : ℕ → Act → AreaAct × Bool
+taken area act = (on area act, true)
 
-abbrev turned : Entry → Entry × Bool
-turned entry = (entry, false)
+abbrev turned : ℕ → Act → AreaAct × Bool
+turned area act = (on area act, false)
 
 -- a sub-area of so many tenths
-abbrev sub : ℕ → ℕ → ℕ → Forest → ℕ → Entry
-sub area number tenths forest planted = Add area number (record { 0 = tenths }) forest planted
+abbrev sub : ℕ → ℕ → Forest → ℕ → Act
+sub number tenths forest planted = Act.Add number (record { 0 = tenths }) forest planted
 
 abbrev examples : List Example
 examples =
@@ -64,15 +52,15 @@ examples =
     record {
       table = 0 ∷ 5 ∷ 0 ∷ 0 ∷ 0 ∷ 0 ∷ 5 ∷ 0 ∷ 0 ∷ 0 ∷ 0 ∷ 10 ∷ 45 ∷ 100 ∷ 200 ∷ 0 ∷ 5 ∷ 20 ∷ 50 ∷ 80 ∷ [];
       steps =
-          taken (Open 7 2010)
-          ∷ taken (sub 7 1 100 DouglasFir 2008)
-          ∷ taken (File 7 2010)
-          ∷ taken (Clear 7 1 2011)
-          ∷ taken (Plant 7 1 DouglasFir 2011)
-          ∷ taken (File 7 2012)
-          ∷ taken (File 7 2013)
-          ∷ turned (Clear 7 2 2014)
-          ∷ taken (Withdraw 7)
+          taken 7 (Act.Open 2010)
+          ∷ taken 7 (sub 1 100 Forest.DouglasFir 2008)
+          ∷ taken 7 (Act.File 2010)
+          ∷ taken 7 (Act.Clear 1 2011)
+          ∷ taken 7 (Act.Plant 1 Forest.DouglasFir 2011)
+          ∷ taken 7 (Act.File 2012)
+          ∷ taken 7 (Act.File 2013)
+          ∷ turned 7 (Act.Clear 2 2014)
+          ∷ taken 7 Act.Withdraw
           ∷ [];
       area = record { opening = 45000; closing = 135000; returns = 3; sum = pos 90; lowest = pos 0; withdrawn = true };
     }
@@ -80,10 +68,10 @@ examples =
     ∷ record {
       table = 0 ∷ 0 ∷ 0 ∷ 3 ∷ 0 ∷ 0 ∷ 0 ∷ 0 ∷ 0 ∷ 0 ∷ 1000 ∷ 700 ∷ 1200 ∷ [];
       steps =
-          taken (Open 1 2010)
-          ∷ taken (sub 1 1 10 ExoticHardwoods 2010)
-          ∷ taken (File 1 2010)
-          ∷ taken (File 1 2011)
+          taken 1 (Act.Open 2010)
+          ∷ taken 1 (sub 1 10 Forest.ExoticHardwoods 2010)
+          ∷ taken 1 (Act.File 2010)
+          ∷ taken 1 (Act.File 2011)
           ∷ [];
       area = record { opening = 100000; closing = 120000; returns = 2; sum = pos 20; lowest = negsuc 29; withdrawn = false };
     }
@@ -91,13 +79,13 @@ examples =
     ∷ record {
       table = [];
       steps =
-          taken (Open 1 2008)
-          ∷ taken (sub 1 1 458 (Radiata Auckland) 1996)
-          ∷ taken (File 1 2012)
-          ∷ turned (File 1 2011)
-          ∷ taken (Clear 1 1 2014)
-          ∷ taken (Plant 1 1 ExoticHardwoods 2014)
-          ∷ taken (File 1 2017)
+          taken 1 (Act.Open 2008)
+          ∷ taken 1 (sub 1 458 (Forest.Radiata Region.Auckland) 1996)
+          ∷ taken 1 (Act.File 2012)
+          ∷ turned 1 (Act.File 2011)
+          ∷ taken 1 (Act.Clear 1 2014)
+          ∷ taken 1 (Act.Plant 1 Forest.ExoticHardwoods 2014)
+          ∷ taken 1 (Act.File 2017)
           ∷ [];
       area = record { opening = 11404200; closing = 7795160; returns = 2; sum = negsuc 3608; lowest = negsuc 3608; withdrawn = false };
     }

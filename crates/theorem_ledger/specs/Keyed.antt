@@ -1,8 +1,5 @@
 -- A list of things that bear a number each: the first with a number is changed.
-use Prim.Native.Nat.{ℕ}
-use mathlib.Core.Bool.{cond}
-use mathlib.Core.List.{List, [], _∷_}
-use lib.Dec.{eqb}
+use Rattle.laws.specs.{ℕ, cond, List, [], _∷_, eqb}
 
 unfoldable pub change : {A : Type 0} → (A → ℕ) → ℕ → (A → A) → List A → List A
 change numberOf n f [] = []

@@ -1,20 +1,14 @@
 -- "Plain ledger for demand 3": "The ledger has the same tables and is fed each step and whether it was accepted. It starts empty; a refused
 -- step or a read-back changes nothing in it." `own` is the participant's table; the default is Schedule 6.
-use Prim.Native.Nat.{ℕ, suc, _+_, _-_}
-use mathlib.Core.Bool.{Bool, true, false, cond}
-use mathlib.Core.List.{List, [], _∷_, _++_}
+use Rattle.laws.specs.{ℕ, suc, _+_, _-_, Bool, true, false, cond, List, [], _∷_, _++_, sumBy}
 use lib.IntN.{ℤ, pos, _+ℤ_, _-ℤ_}
 use lib.Signed.{leZ}
-use Rattle.laws.specs.Elements.{sumBy}
-use Rattle.units.specs.Tonnes.{nearestTonne}
-use Rattle.forest.specs.declared.Forest.{Forest}
-use Rattle.forest.specs.declared.Forest.the-variants.{Bare}
-use Rattle.schedules.specs.Schedules.{schedule6}
-use Rattle.line_entry.specs.declared.Entry.{Entry}
-use Rattle.line_entry.specs.declared.Entry.the-variants.{Open, Add, Clear, Plant, File, Withdraw, Column}
-use Rattle.holding.specs.declared.Sub.{Sub}
-use Rattle.holding.specs.Holding.{noResidue}
-use Rattle.stocks.specs.Stocks.{subStock}
+use Rattle.units.specs.{nearestTonne}
+use Rattle.forest.specs.{Forest}
+use Rattle.schedules.specs.{schedule6}
+use Rattle.line_entry.specs.{Act, AreaAct}
+use Rattle.holding.specs.{Sub, noResidue, withTrees, withResidue}
+use Rattle.stocks.specs.{subStock}
 use Rattle.theorem_ledger.specs.Keyed.{change}
 
 -- an area as the ledger keeps it
@@ -35,6 +29,20 @@ rowNumber row = row .number
 abbrev pub subNumber : Sub → ℕ
 subNumber sub = sub .number
 
+-- all that changes in a row: its number and its opening year stay
+abbrev pub rowWith : (subs : List Sub) (opening closing returns : ℕ) (sum lowest : ℤ) (withdrawn : Bool) → Row → Row
+rowWith subs opening closing returns sum lowest withdrawn row = record {
+  number = row .number;
+  openingYear = row .openingYear;
+  subs = subs;
+  opening = opening;
+  closing = closing;
+  returns = returns;
+  sum = sum;
+  lowest = lowest;
+  withdrawn = withdrawn;
+}
+
 -- "A opens an area with no subs, its returns, stocks, sum and lowest at nought."
 abbrev pub opened : ℕ → ℕ → Row
 opened number year = record {
@@ -51,53 +59,21 @@ opened number year = record {
 
 -- "S adds a sub without residue; its stock at the opening year is added to the opening and the closing stock."
 abbrev pub added : List ℕ → Sub → Row → Row
-added own sub row =
-    let stock = subStock own schedule6 sub (row .openingYear) .0 in
-    record {
-      number = row .number;
-      openingYear = row .openingYear;
-      subs = row .subs ++ (sub ∷ []);
-      opening = row .opening + stock;
-      closing = row .closing + stock;
-      returns = row .returns;
-      sum = row .sum;
-      lowest = row .lowest;
-      withdrawn = row .withdrawn;
-    }
+added own sub r =
+    let stock = subStock own schedule6 sub (r .openingYear) .0 in
+    rowWith (r .subs ++ (sub ∷ [])) (r .opening + stock) (r .closing + stock) (r .returns) (r .sum) (r .lowest) (r .withdrawn) r
 
 -- the area with another list of subs
 abbrev pub withSubs : (List Sub → List Sub) → Row → Row
-withSubs f row = record {
-  number = row .number;
-  openingYear = row .openingYear;
-  subs = f (row .subs);
-  opening = row .opening;
-  closing = row .closing;
-  returns = row .returns;
-  sum = row .sum;
-  lowest = row .lowest;
-  withdrawn = row .withdrawn;
-}
+withSubs f r = rowWith (f (r .subs)) (r .opening) (r .closing) (r .returns) (r .sum) (r .lowest) (r .withdrawn) r
 
 -- "C takes the sub's trees away; their type, their age in that year and the year become its residue."
 abbrev pub cleared : ℕ → Sub → Sub
-cleared year sub = record {
-  number = sub .number;
-  tenths = sub .tenths;
-  forest = Bare;
-  planted = 0;
-  residue = record { forest = sub .forest; age = year - sub .planted; year = year };
-}
+cleared year sub = withResidue (record { forest = sub .forest; age = year - sub .planted; year = year }) (withTrees Forest.Bare 0 sub)
 
 -- "P gives the sub trees of that type and year."
 abbrev pub planted : Forest → ℕ → Sub → Sub
-planted forest year sub = record {
-  number = sub .number;
-  tenths = sub .tenths;
-  forest = forest;
-  planted = year;
-  residue = sub .residue;
-}
+planted forest year sub = withTrees forest year sub
 
 -- the lesser of two
 abbrev pub lesser : ℤ → ℤ → ℤ
@@ -113,50 +89,33 @@ changeOf own last row = nearestTonne (pos (stockAfter own last row) -ℤ pos (ro
 
 -- "this stock is then the closing stock. The change is added to the sum, returns grow by one, and lowest becomes the smaller of itself and the sum."
 abbrev pub returned : List ℕ → ℕ → Row → Row
-returned own last row =
-    let total = row .sum +ℤ changeOf own last row in
-    record {
-      number = row .number;
-      openingYear = row .openingYear;
-      subs = row .subs;
-      opening = row .opening;
-      closing = stockAfter own last row;
-      returns = suc (row .returns);
-      sum = total;
-      lowest = lesser (row .lowest) total;
-      withdrawn = row .withdrawn;
-    }
+returned own last r =
+    let total = r .sum +ℤ changeOf own last r in
+    rowWith (r .subs) (r .opening) (stockAfter own last r) (suc (r .returns)) total (lesser (r .lowest) total) (r .withdrawn) r
 
 -- "W marks the area withdrawn."
 abbrev pub withdrawnRow : Row → Row
-withdrawnRow row = record {
-  number = row .number;
-  openingYear = row .openingYear;
-  subs = row .subs;
-  opening = row .opening;
-  closing = row .closing;
-  returns = row .returns;
-  sum = row .sum;
-  lowest = row .lowest;
-  withdrawn = true;
-}
+withdrawnRow r = rowWith (r .subs) (r .opening) (r .closing) (r .returns) (r .sum) (r .lowest) true r
 
--- an accepted entry; T is no step of the ledger
-unfoldable pub entered : List ℕ → Entry → List Row → List Row
-entered own (Open area year) rows = rows ++ (opened area year ∷ [])
-entered own (Add area sub land forest year) rows =
+-- an accepted act on the area of a number
+unfoldable pub entered : List ℕ → ℕ → Act → List Row → List Row
+entered own area (Act.Open year) rows = rows ++ (opened area year ∷ [])
+entered own area (Act.Add sub land forest year) rows =
     change rowNumber area (added own (record { number = sub; tenths = land; forest = forest; planted = year; residue = noResidue })) rows
-entered own (Clear area sub year) rows = change rowNumber area (withSubs (change subNumber sub (cleared year))) rows
-entered own (Plant area sub forest year) rows = change rowNumber area (withSubs (change subNumber sub (planted forest year))) rows
-entered own (File area last) rows = change rowNumber area (returned own last) rows
-entered own (Withdraw area) rows = change rowNumber area withdrawnRow rows
-entered own (Column column cells) rows = rows
+entered own area (Act.Clear sub year) rows = change rowNumber area (withSubs (change subNumber sub (cleared year))) rows
+entered own area (Act.Plant sub forest year) rows = change rowNumber area (withSubs (change subNumber sub (planted forest year))) rows
+entered own area (Act.File last) rows = change rowNumber area (returned own last) rows
+entered own area Act.Withdraw rows = change rowNumber area withdrawnRow rows
+
+-- one step more, and whether it was accepted
+abbrev pub notedStep : List ℕ → List Row → AreaAct → Bool → List Row
+notedStep own rows on accepted = cond accepted (entered own (on .area) (on .act) rows) rows
 
 -- "is fed each step and whether it was accepted": a step and that, the first step first
-unfoldable pub noted : List ℕ → List Row → List (Entry × Bool) → List Row
+unfoldable pub noted : List ℕ → List Row → List (AreaAct × Bool) → List Row
 noted own rows [] = rows
-noted own rows (s ∷ steps) = noted own (cond (s .1) (entered own (s .0) rows) rows) steps
+noted own rows (s ∷ steps) = noted own (notedStep own rows (s .0) (s .1)) steps
 
 -- "It starts empty"
-abbrev pub ledgerOf : List ℕ → List (Entry × Bool) → List Row
+abbrev pub ledgerOf : List ℕ → List (AreaAct × Bool) → List Row
 ledgerOf own steps = noted own [] steps

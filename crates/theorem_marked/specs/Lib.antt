@@ -1,1 +1,2 @@
 pub mod Marked
+pub use Marked.{Example, Says, Every, hectaresLine, rest, tenths, group, marked}

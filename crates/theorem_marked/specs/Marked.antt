@@ -1,22 +1,14 @@
 -- The examples that document 01 marks, each with what it says.
-use Prim.Native.Nat.{ℕ}
-use mathlib.Core.Path.{_≡_}
-use mathlib.Core.List.{List, [], _∷_}
+use Rattle.laws.specs.{ℕ, _≡_, List, [], _∷_}
 use lib.IntN.{ℤ, pos, negsuc}
-use Rattle.units.specs.Tonnes.{nearestTonne}
-use Rattle.refusals.specs.declared.Refusal.the-variants.{Hectares}
-use Rattle.forest.specs.declared.Region.the-variants.{Auckland}
-use Rattle.forest.specs.declared.Forest.{Forest}
-use Rattle.forest.specs.declared.Forest.the-variants.{Radiata, DouglasFir, ExoticSoftwoods, ExoticHardwoods, Indigenous}
-use Rattle.rates.specs.Decay.{shareAfter}
-use Rattle.line_entry.specs.declared.Entry.the-variants.{Add}
-use Rattle.line_entry.specs.declared.Parsed.{Parsed}
-use Rattle.line_entry.specs.declared.Parsed.the-variants.{Taken, Turned}
-use Rattle.line.specs.Lines.{entryOf}
-use Rattle.land_groups.specs.declared.Group.{Group}
-use Rattle.land_trees.specs.declared.Hectare.{Hectare}
-use Rattle.land_trees.specs.declared.Hectare.the-variants.{Of}
-use Rattle.land_trees.specs.Hectares.{hectareOf}
+use Rattle.units.specs.{nearestTonne}
+use Rattle.refusals.specs.{Refusal}
+use Rattle.forest.specs.{Forest, Region}
+use Rattle.rates.specs.{shareAfter}
+use Rattle.line_entry.specs.{Act, Parsed, Entry, on}
+use Rattle.line.specs.{entryOf}
+use Rattle.land_groups.specs.{Group}
+use Rattle.land_trees.specs.{Hectare, hectareOf}
 
 pub data Example : Type 0 where
   -- the bytes of a line and what it says
@@ -46,7 +38,7 @@ abbrev pub rest : List ℕ
 rest = 44 ∷ 68 ∷ 44 ∷ 50 ∷ 48 ∷ 48 ∷ 56 ∷ 10 ∷ []
 
 abbrev pub tenths : ℕ → Parsed
-tenths n = Taken (Add 7 1 (record { 0 = n }) DouglasFir 2008)
+tenths n = Parsed.Taken (Entry.On (on 7 (Act.Add 1 (record { 0 = n }) Forest.DouglasFir 2008)))
 
 abbrev pub group : ℕ → Forest → ℕ → ℕ → Group
 group species forest age area = record { species = species; forest = forest; age = age; «basal_area» = area }
@@ -57,14 +49,14 @@ marked =
     Line (hectaresLine (52 ∷ 53 ∷ 46 ∷ 56 ∷ 51 ∷ rest)) (tenths 458)
     ∷ Line (hectaresLine (52 ∷ 53 ∷ 46 ∷ 56 ∷ 53 ∷ rest)) (tenths 459)
     ∷ Line (hectaresLine (49 ∷ 46 ∷ 48 ∷ 52 ∷ rest)) (tenths 10)
-    ∷ Line (hectaresLine (48 ∷ 46 ∷ 57 ∷ 57 ∷ rest)) (Turned Hectares)
-    ∷ Line (hectaresLine (49 ∷ 48 ∷ 48 ∷ 48 ∷ 48 ∷ 46 ∷ 48 ∷ 49 ∷ rest)) (Turned Hectares)
+    ∷ Line (hectaresLine (48 ∷ 46 ∷ 57 ∷ 57 ∷ rest)) (Parsed.Refused Refusal.Hectares)
+    ∷ Line (hectaresLine (49 ∷ 48 ∷ 48 ∷ 48 ∷ 48 ∷ 46 ∷ 48 ∷ 49 ∷ rest)) (Parsed.Refused Refusal.Hectares)
     -- "*Ages 30 and 15 at 70 and 30: 26": radiata of mixed age
-    ∷ Trees (group 1 (Radiata Auckland) 15 30 ∷ group 1 (Radiata Auckland) 30 70 ∷ []) (Of (Radiata Auckland) 26)
+    ∷ Trees (group 1 (Forest.Radiata Region.Auckland) 15 30 ∷ group 1 (Forest.Radiata Region.Auckland) 30 70 ∷ []) (Hectare.Of (Forest.Radiata Region.Auckland) 26)
     -- "*28 from 30 and 25 at 60 and 30": two eucalypts, and kanuka that does not count
-    ∷ Trees (group 1 ExoticHardwoods 30 60 ∷ group 2 ExoticHardwoods 25 30 ∷ group 3 Indigenous 5 10 ∷ []) (Of ExoticHardwoods 28)
+    ∷ Trees (group 1 Forest.ExoticHardwoods 30 60 ∷ group 2 Forest.ExoticHardwoods 25 30 ∷ group 3 Forest.Indigenous 5 10 ∷ []) (Hectare.Of Forest.ExoticHardwoods 28)
     -- "*24 from 30 and 15 at 60 and 40": redwood and Pinus muricata
-    ∷ Trees (group 1 ExoticSoftwoods 30 60 ∷ group 2 ExoticSoftwoods 15 40 ∷ []) (Of ExoticSoftwoods 24)
+    ∷ Trees (group 1 Forest.ExoticSoftwoods 30 60 ∷ group 2 Forest.ExoticSoftwoods 15 40 ∷ []) (Hectare.Of Forest.ExoticSoftwoods 24)
     -- "*500 kg is 1 t, *−500 is −1, *499 is 0."
     ∷ Tonnes (pos 500) (pos 1)
     ∷ Tonnes (negsuc 499) (negsuc 0)

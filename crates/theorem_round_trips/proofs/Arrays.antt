@@ -1,13 +1,9 @@
 -- Arrays filled from empty places: what was put in stands in front, every place behind it is empty, and so an array filled with what stands in
 -- another is that other.
-use Prim.Native.Nat.{ℕ, zero, suc, _-_, _≤_}
-use mathlib.Core.Path.{_≡_, ap, _∙_}
-use mathlib.Core.List.{List, _++_}
-use native.Mathlib.Omega.{arith}
-use lib.ListN.{length, take, drop, replicate, length-take, length-replicate}
-use lib.Seq.{sets, length-sets, take-at, drop-at}
+use Rattle.laws.proofs.{ℕ, zero, suc, _-_, _≤_, _≡_, ap, _∙_, List, _++_, arith, length, take, drop, replicate, length-take, length-replicate, sets}
+use lib.Seq.{length-sets, take-at, drop-at}
 use Rattle.laws.proofs.Stores.{stored-in-front}
-use Rattle.theorem_keeping.specs.Tidy.{Tidy}
+use Rattle.theorem_keeping.specs.{Tidy}
 use Rattle.theorem_keeping.proofs.Register.{tidy-same}
 
 drop-replicate : {A : Type 0} (a : A) (n m : ℕ) → drop n (replicate m a) ≡ replicate (m - n) a

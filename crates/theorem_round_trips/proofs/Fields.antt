@@ -1,16 +1,8 @@
 -- A field that stands at a place is read there, and what is read stands there, whatever `read` makes of a field's bytes.
-use Prim.Native.Nat.{ℕ, suc, _+_, _<_}
-use mathlib.Core.Path.{_≡_, refl, sym, ap, _∙_}
-use mathlib.Core.Bool.{Bool, true, false, cond}
-use mathlib.Core.List.{List, [], _∷_, _++_, append-assoc}
-use mathlib.Core.Logic.{⊎-elim}
-use native.Mathlib.Omega.{arith}
-use borrow.Author.Tests.{lt-leb, ne-eqb, eqb-false, leb-false}
-use lib.Dec.{leb, eqb}
-use lib.ListN.{length, take, drop, length-append, length-take, length-drop}
-use lib.Seq.{drop-drop, take-at}
+use Rattle.laws.proofs.{ℕ, suc, _+_, _<_, _≡_, refl, sym, ap, _∙_, Bool, true, false, cond, List, [], _∷_, _++_, append-assoc, ⊎-elim, arith, lt-leb, ne-eqb, eqb-false, leb-false, leb, eqb, length, take, drop, length-append, length-take, length-drop, drop-drop}
+use lib.Seq.{take-at}
 use Rattle.laws.proofs.Order.{below-or-not}
-use Rattle.statement_cursor.specs.Cursor.{widthTo, fieldOf, fieldBy}
+use Rattle.statement_cursor.specs.{widthTo, fieldOf, fieldBy}
 use Rattle.theorem_round_trips.proofs.Places.{Stands}
 use Rattle.theorem_round_trips.proofs.Widths.{High, width-high, width-split}
 

@@ -1,21 +1,13 @@
 -- What a statement carries, the reader has room for: each range lies within the number of bits that its field is read into.
-use Prim.Native.Nat.{ℕ, _≤_, max}
-use mathlib.Core.Bool.{Bool, true, false, _||_}
-use mathlib.Core.Path.{_≡_, refl}
-use native.Mathlib.Omega.{arith}
-use lib.Dec.{eqb}
-use borrow.Author.Tests.{eqb-true}
-use Rattle.ranges.specs.Ranges.{lastArea, lastSub, lastYear, isBare, isYear}
-use Rattle.holding.specs.declared.Sub.{Sub}
-use Rattle.holding.specs.declared.Area.{Area}
-use Rattle.holding.specs.declared.Holding.{Holding}
-use Rattle.holding.specs.Holding.{mostAreas, mostSubs, emptySub, emptyArea}
-use Rattle.theorem_keeping.specs.Kept.{Kept}
+use Rattle.laws.proofs.{ℕ, _≤_, max, Bool, true, false, _||_, _≡_, refl, arith, eqb, eqb-true}
+use Rattle.ranges.specs.{lastArea, lastSub, lastYear, isBare, isYear}
+use Rattle.holding.specs.{Sub, Area, Holding, mostAreas, mostSubs, emptySub, emptyArea}
+use Rattle.theorem_keeping.specs.{Kept}
 use Rattle.theorem_keeping.proofs.Within.{within, year-within, land-within}
 use Rattle.theorem_keeping.proofs.Register.{Register, register-so}
 use Rattle.theorem_keeping.proofs.Subs.{SubKept}
 use Rattle.theorem_keeping.proofs.Areas.{areaNumber, subNumber, AreaKept, kept-areas}
-use Rattle.statement_parse.specs.Reading.{most8, most16, most32, mostRead}
+use Rattle.statement_parse.specs.{most8, most16, most32, mostRead}
 
 pub record SubFits (sub : Sub) : Type 0 where
   pub number : sub .number ≤ most8

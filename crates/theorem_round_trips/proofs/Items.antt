@@ -1,15 +1,9 @@
 -- Lists of lines, the sub-areas of an area or the areas of a holding: if each line is read where it stands, and stands where it is read, so do
 -- all of them together, and the array that they are put into is tidy.
-use Prim.Native.Nat.{ℕ, zero, suc, _+_, _≤_, _<_}
-use mathlib.Core.Path.{_≡_, refl, sym, ap, _∙_}
-use mathlib.Core.List.{List, [], _∷_}
-use native.Mathlib.Numerals.{add-one}
-use native.Mathlib.Omega.{arith}
-use lib.ListN.{length, set, take, replicate}
-use lib.Seq.{sets}
-use Rattle.statement_format.specs.Format.{texts}
-use Rattle.statement_parse.specs.Reading.{itemsFrom}
-use Rattle.theorem_keeping.specs.Tidy.{Tidy, Each}
+use Rattle.laws.proofs.{ℕ, zero, suc, _+_, _≤_, _<_, _≡_, refl, sym, ap, _∙_, List, [], _∷_, add-one, arith, length, set, take, replicate, sets}
+use Rattle.statement_format.specs.{texts}
+use Rattle.statement_parse.specs.{itemsFrom}
+use Rattle.theorem_keeping.specs.{Tidy, Each}
 use Rattle.theorem_keeping.proofs.Register.{Register}
 use Rattle.theorem_round_trips.proofs.Places.{Stands, There, stands-none, stands-then, stands-first, stands-rest}
 use Rattle.theorem_round_trips.proofs.Arrays.{stored-stands, stored-tidy, stored-again, tidy-taken}

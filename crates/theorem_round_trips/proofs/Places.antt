@@ -1,11 +1,7 @@
 -- Bytes that stand in a list from a place on, and the place after them. What stands in two parts stands part by part, and the other way round.
-use Prim.Native.Nat.{ℕ, _+_, _<_}
-use mathlib.Core.Path.{_≡_, refl, sym, ap, _∙_}
-use mathlib.Core.List.{List, [], _∷_, _++_, append-assoc, append-nil}
-use native.Mathlib.Omega.{arith}
-use lib.ListN.{length, drop, length-append, drop-of-length-le}
-use lib.Seq.{drop-drop, drop-at}
-use Rattle.statement_format.specs.Format.{joined}
+use Rattle.laws.proofs.{ℕ, _+_, _<_, _≡_, refl, sym, ap, _∙_, List, [], _∷_, _++_, append-assoc, append-nil, arith, length, drop, length-append, drop-of-length-le, drop-drop}
+use lib.Seq.{drop-at}
+use Rattle.statement_format.specs.{joined}
 
 pub record Stands (s : List ℕ) (at : ℕ) (bytes : List ℕ) (next : ℕ) : Type 0 where
   pub here : drop at s ≡ bytes ++ drop next s

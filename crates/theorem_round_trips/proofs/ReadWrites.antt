@@ -1,16 +1,11 @@
 -- What is read stands in the bytes as the writer writes it: each field stands where it was read, and the fields follow one another. The arrays
 -- were empty before what was read was put into them.
-use Prim.Native.Nat.{ℕ, zero, suc, _≤_, _<_}
-use mathlib.Core.Path.{_≡_, refl, subst}
-use mathlib.Core.List.{List}
-use native.Mathlib.Omega.{arith}
-use lib.Dec.{eqb}
-use lib.ListN.{take}
-use Rattle.holding.specs.Holding.{mostAreas, mostSubs, emptySub, emptyArea}
-use Rattle.statement_format.specs.Format.{numberText, joined, texts, flag, residueText, subText, yearsText, amountsText, areaText, statementOf}
-use Rattle.statement_cursor.specs.Cursor.{numberAt}
-use Rattle.statement_parse.specs.Reading.{most8, most16, most32, mostRead, residueAt, subLineAt, subsFrom, subsAt, yearsAt, amountsAt, areaLineAt, areasFrom, areasAt, holdingAt}
-use Rattle.theorem_keeping.specs.Tidy.{TidyArea, TidyHolding}
+use Rattle.laws.proofs.{ℕ, zero, suc, _≤_, _<_, _≡_, refl, subst, List, arith, eqb, take}
+use Rattle.holding.specs.{mostAreas, mostSubs, emptySub, emptyArea}
+use Rattle.statement_format.specs.{numberText, joined, texts, flag, residueText, subText, yearsText, amountsText, areaText, statementOf}
+use Rattle.statement_cursor.specs.{numberAt}
+use Rattle.statement_parse.specs.{most8, most16, most32, mostRead, residueAt, subLineAt, subsFrom, subsAt, yearsAt, amountsAt, areaLineAt, areasFrom, areasAt, holdingAt}
+use Rattle.theorem_keeping.specs.{TidyArea, TidyHolding}
 use Rattle.theorem_round_trips.proofs.Places.{Stands, There, stands-none, stands-then}
 use Rattle.theorem_round_trips.proofs.Values.{number-there, number-small, type-there}
 use Rattle.theorem_round_trips.proofs.Starts.{start-there, line-there}

@@ -1,15 +1,7 @@
 -- The letter that starts a line and the comma after it: where they stand they are read, and where they are read they stand.
-use Prim.Native.Nat.{ℕ, suc, _+_, _<_}
-use mathlib.Core.Path.{_≡_, refl, sym, ap, _∙_}
-use mathlib.Core.Bool.{Bool, true, false, cond, _&&_}
-use mathlib.Core.List.{List, [], _∷_}
-use native.Mathlib.Omega.{arith}
-use borrow.Author.Tests.{lt-ltb, eq-eqb, ne-eqb, ltb-true, eqb-true, eqb-false}
-use lib.Dec.{ltb, eqb}
-use lib.ListN.{length, drop, getD, length-drop}
-use lib.Seq.{drop-cons, getD-drop}
-use Rattle.statement_format.specs.Format.{startText}
-use Rattle.statement_cursor.specs.Cursor.{startAt, lineAt}
+use Rattle.laws.proofs.{ℕ, suc, _+_, _<_, _≡_, refl, sym, ap, _∙_, Bool, true, false, cond, _&&_, List, [], _∷_, arith, lt-ltb, eq-eqb, ne-eqb, ltb-true, eqb-true, eqb-false, ltb, eqb, length, drop, getD, length-drop, drop-cons, getD-drop}
+use Rattle.statement_format.specs.{startText}
+use Rattle.statement_cursor.specs.{startAt, lineAt}
 use Rattle.theorem_round_trips.proofs.Places.{Stands, There}
 use Rattle.theorem_round_trips.proofs.Fields.{positive}
 

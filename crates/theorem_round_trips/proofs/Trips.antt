@@ -1,23 +1,17 @@
 -- The two round trips of demand 2, over every holding and every list of bytes; from them, when a statement is accepted, and that what entries reach
 -- is written and read back as it was.
-use Prim.Native.Nat.{ℕ, _<_}
-use mathlib.Core.Path.{_≡_, sym, ap, subst, _∙_}
-use mathlib.Core.List.{List}
+use Rattle.laws.proofs.{ℕ, _<_, _≡_, sym, ap, subst, _∙_, List, arith, length}
 use mathlib.Core.Logic.{_↔_}
-use native.Mathlib.Omega.{arith}
-use lib.ListN.{length}
-use Rattle.refusals.specs.declared.Verdict.the-variants.{Clear}
-use Rattle.line_entry.specs.declared.Entry.{Entry}
-use Rattle.holding.specs.declared.Holding.{Holding}
-use Rattle.holding.specs.Holding.{emptyHolding}
-use Rattle.step_outcome.specs.Outcomes.{placed}
-use Rattle.step.specs.Steps.{stepped, holdingFrom}
-use Rattle.theorem_keeping.specs.Kept.{Kept}
+use Rattle.refusals.specs.{Verdict}
+use Rattle.line_entry.specs.{AreaAct}
+use Rattle.holding.specs.{Holding, emptyHolding}
+use Rattle.step_outcome.specs.{placed}
+use Rattle.step.specs.{stepped, holdingFrom}
+use Rattle.theorem_keeping.specs.{Kept}
 use Rattle.theorem_keeping.proofs.Keeping.{step-keeps, list-keeps, reached-kept}
-use Rattle.statement_format.specs.Format.{startText, joined, statementOf}
-use Rattle.statement_parse.specs.Reading.{holdingAt}
-use Rattle.statement.specs.declared.Read.{Read}
-use Rattle.statement.specs.Statement.{readOf}
+use Rattle.statement_format.specs.{startText, joined, statementOf}
+use Rattle.statement_parse.specs.{holdingAt}
+use Rattle.statement.specs.{Read, readOf}
 use Rattle.theorem_round_trips.proofs.Places.{Stands, stands-whole, whole-stands}
 use Rattle.theorem_round_trips.proofs.WrittenReads.{holding-here}
 use Rattle.theorem_round_trips.proofs.ReadWrites.{holding-there, holding-tidy}
@@ -28,12 +22,12 @@ unfolding statementOf joined startText
 statement-some holding = omega arith
 
 -- a holding that a statement carries, written, reads back the same
-pub written-reads : (holding : Holding) → Kept holding → readOf (statementOf holding) ≡ record { verdict = Clear; holding = holding }
+pub written-reads : (holding : Holding) → Kept holding → readOf (statementOf holding) ≡ record { verdict = Verdict.Accepted; holding = holding }
 written-reads holding kept =
     let s = statementOf holding in
     accepted-read s holding (holding-here s (length s) holding kept (stands-whole s)) (statement-some holding) (kept .carries)
 
-module _ (s : List ℕ) (clear : readOf s .verdict ≡ Clear) where
+module _ (s : List ℕ) (clear : readOf s .verdict ≡ Verdict.Accepted) where
   same-holding : readOf s .holding ≡ holdingAt s .holding
   same-holding = ap (λ (r : Read). r .holding) (read-holding s clear)
 
@@ -50,27 +44,27 @@ module _ (s : List ℕ) (clear : readOf s .verdict ≡ Clear) where
   read-kept = subst Kept (sym same-holding) (record { carries = read-accepted s clear .carries; tidy = holding-tidy s })
 
 -- a holding that a statement carries is the only one that its statement is read as
-pub accepts-that : (s : List ℕ) (holding : Holding) → Kept holding → statementOf holding ≡ s → readOf s ≡ record { verdict = Clear; holding = holding }
+pub accepts-that : (s : List ℕ) (holding : Holding) → Kept holding → statementOf holding ≡ s → readOf s ≡ record { verdict = Verdict.Accepted; holding = holding }
 accepts-that s holding kept e = sym (ap readOf e) ∙ written-reads holding kept
 
 -- "A reader accepts it exactly when .. the bytes are the writer's": they are the statement of a holding that a statement carries
-pub accepts-just-when : (s : List ℕ) → (readOf s .verdict ≡ Clear) ↔ ((holding : Holding) × Kept holding × (statementOf holding ≡ s))
+pub accepts-just-when : (s : List ℕ) → (readOf s .verdict ≡ Verdict.Accepted) ↔ ((holding : Holding) × Kept holding × (statementOf holding ≡ s))
 accepts-just-when s = (
   (λ clear. (readOf s .holding, read-kept s clear, read-writes s clear)),
   (λ written. ap (λ (r : Read). r .verdict) (accepts-that s (written .0) (written .1) (written .2))),
 )
 
 -- "A holding reached by entries, written as a statement, reads back the same"
-pub reached-reads-back : (own : List ℕ) (es : List Entry)
-    → readOf (statementOf (holdingFrom own emptyHolding es)) ≡ record { verdict = Clear; holding = holdingFrom own emptyHolding es }
+pub reached-reads-back : (own : List ℕ) (es : List AreaAct)
+    → readOf (statementOf (holdingFrom own emptyHolding es)) ≡ record { verdict = Verdict.Accepted; holding = holdingFrom own emptyHolding es }
 reached-reads-back own es = written-reads (holdingFrom own emptyHolding es) (reached-kept own es)
 
 -- what a step makes of a holding that was read can again be written and read, and so what a list of entries makes of it
-pub carried-on : (own s : List ℕ) (entry : Entry) → readOf s .verdict ≡ Clear
+pub carried-on : (own s : List ℕ) (entry : AreaAct) → readOf s .verdict ≡ Verdict.Accepted
     → (let after = placed (readOf s .holding) (stepped own (readOf s .holding) entry) in
-    readOf (statementOf after) ≡ record { verdict = Clear; holding = after })
+    readOf (statementOf after) ≡ record { verdict = Verdict.Accepted; holding = after })
 carried-on own s entry clear = written-reads _ (step-keeps own (readOf s .holding) entry (read-kept s clear))
 
-pub carried-through : (own s : List ℕ) (es : List Entry) → readOf s .verdict ≡ Clear
-    → (let after = holdingFrom own (readOf s .holding) es in readOf (statementOf after) ≡ record { verdict = Clear; holding = after })
+pub carried-through : (own s : List ℕ) (es : List AreaAct) → readOf s .verdict ≡ Verdict.Accepted
+    → (let after = holdingFrom own (readOf s .holding) es in readOf (statementOf after) ≡ record { verdict = Verdict.Accepted; holding = after })
 carried-through own s es clear = written-reads _ (list-keeps own (readOf s .holding) es (read-kept s clear))

@@ -1,25 +1,13 @@
 -- Numbers and types as fields: the digits of a number and the letters of a type are read as it, and nothing else is.
-use Prim.Native.Nat.{ℕ, _≤_, _<_}
-use mathlib.Core.Path.{_≡_, refl, ap, subst, _∙_}
-use mathlib.Core.Bool.{Bool, true, false, cond}
-use mathlib.Core.List.{List, [], _∷_, _++_}
-use native.Mathlib.Omega.{arith}
-use borrow.Author.Tests.{le-leb, leb-true}
-use lib.Dec.{leb}
-use Rattle.text.specs.Digits.{digits}
-use Rattle.text_number.specs.declared.Number.{Number}
-use Rattle.text_number.specs.declared.Number.the-variants.{Value, Large, Malformed}
-use Rattle.text_number.specs.Numbers.{numberIn}
+use Rattle.laws.proofs.{ℕ, _≤_, _<_, _≡_, refl, ap, subst, _∙_, Bool, true, false, cond, List, [], _∷_, _++_, arith, le-leb, leb-true, leb}
+use Rattle.text.specs.{digits}
+use Rattle.text_number.specs.{Number, numberIn}
 use Rattle.text_number.proofs.RoundTrip.{there-and-back, canonical}
-use Rattle.forest.specs.declared.Forest.{Forest}
-use Rattle.forest.specs.declared.Named.{Named}
-use Rattle.forest.specs.declared.Named.the-variants.{Listed, Unlisted}
-use Rattle.forest.specs.Letters.{lettersOf, named}
+use Rattle.forest.specs.{Forest, Named, lettersOf, named}
 use Rattle.forest.proofs.Laws.{letters-name, only-letters-name}
-use Rattle.statement_format.specs.Format.{numberText, typeText}
-use Rattle.statement_cursor.specs.declared.NumberField.{NumberField}
-use Rattle.statement_cursor.specs.Cursor.{noNumber, noType, numberBefore, numberAt, typeBefore, typeAt}
-use Rattle.statement_parse.specs.Reading.{mostRead}
+use Rattle.statement_format.specs.{numberText, typeText}
+use Rattle.statement_cursor.specs.{NumberField, noNumber, noType, numberBefore, numberAt, typeBefore, typeAt}
+use Rattle.statement_parse.specs.{mostRead}
 use Rattle.theorem_round_trips.proofs.Places.{Stands, There}
 use Rattle.theorem_round_trips.proofs.Widths.{high-digits, high-letters}
 use Rattle.theorem_round_trips.proofs.Fields.{field-here, field-there}
@@ -40,14 +28,14 @@ module _ (s : List ℕ) (at end most : ℕ) where
   number-of : (next : ℕ) (bytes : List ℕ) → 0 < at → Stands s at (bytes ++ (end ∷ [])) next → (n : Number) → numberIn bytes ≡ n
       → 0 < numberBefore most next n .next → There s at (numberText (numberBefore most next n .value) end) (numberBefore most next n .next)
   unfolding numberBefore numberText
-  number-of next bytes started stands (Value v) e h = go (leb v most) h
+  number-of next bytes started stands (Number.Value v) e h = go (leb v most) h
     where
       go : (t : Bool) → 0 < valued v next t .next
           → There s at (digits (valued v next t .value) ++ (end ∷ [])) (valued v next t .next)
       go true h = record { started = started; stands = subst (λ (l : List ℕ). Stands s at (l ++ (end ∷ [])) next) (canonical bytes v e) stands }
       go false h = absurd (omega arith)
-  number-of next bytes started stands Large e h = absurd (omega arith)
-  number-of next bytes started stands Malformed e h = absurd (omega arith)
+  number-of next bytes started stands Number.Large e h = absurd (omega arith)
+  number-of next bytes started stands Number.Malformed e h = absurd (omega arith)
 
   pub number-there : 0 < numberAt s at end most .next → There s at (numberText (numberAt s at end most .value) end) (numberAt s at end most .next)
   unfolding numberAt
@@ -59,13 +47,13 @@ module _ (s : List ℕ) (at end most : ℕ) where
 
   small-number : (next : ℕ) (n : Number) → numberBefore most next n .value ≤ most
   unfolding numberBefore
-  small-number next (Value v) = go (leb v most) refl
+  small-number next (Number.Value v) = go (leb v most) refl
     where
       go : (t : Bool) → leb v most ≡ t → valued v next t .value ≤ most
       go true e = leb-true v most e
       go false e = omega arith
-  small-number next Large = omega arith
-  small-number next Malformed = omega arith
+  small-number next Number.Large = omega arith
+  small-number next Number.Malformed = omega arith
 
   -- in any case it keeps its limit
   pub number-small : numberAt s at end most .value ≤ most
@@ -86,11 +74,11 @@ module _ (s : List ℕ) (at end : ℕ) where
   type-of : (next : ℕ) (bytes : List ℕ) → 0 < at → Stands s at (bytes ++ (end ∷ [])) next → (type : Named) → named bytes ≡ type
       → 0 < typeBefore next type .next → There s at (typeText (typeBefore next type .forest) end) (typeBefore next type .next)
   unfolding typeBefore typeText
-  type-of next bytes started stands (Listed forest) e h = record {
+  type-of next bytes started stands (Named.Listed forest) e h = record {
     started = started;
     stands = subst (λ (l : List ℕ). Stands s at (l ++ (end ∷ [])) next) (only-letters-name bytes forest e) stands;
   }
-  type-of next bytes started stands Unlisted e h = absurd (omega arith)
+  type-of next bytes started stands Named.Unlisted e h = absurd (omega arith)
 
   pub type-there : 0 < typeAt s at end .next → There s at (typeText (typeAt s at end .forest) end) (typeAt s at end .next)
   unfolding typeAt

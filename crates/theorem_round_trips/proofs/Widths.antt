@@ -1,19 +1,10 @@
 -- How far it is to the byte that ends a field. A field's bytes are digits and letters, 48 and above, and the byte that ends it, 44 or 10, is below
 -- them: so a field's width is the number of its bytes, and what stands before the first ending byte is the field.
-use Prim.Native.Nat.{ℕ, suc, _+_, _/_, _%_, _≤_, _<_}
-use mathlib.Core.Path.{_≡_, refl, ap}
-use mathlib.Core.Bool.{Bool, true, false, cond}
-use mathlib.Core.List.{List, [], _∷_, _++_}
-use native.Mathlib.Omega.{arith}
-use borrow.Author.Tests.{eq-eqb, ne-eqb, eqb-true}
-use lib.Dec.{eqb}
-use lib.ListN.{length, take, drop}
-use Rattle.text.specs.Digits.{digits}
+use Rattle.laws.proofs.{ℕ, suc, _+_, _/_, _%_, _≤_, _<_, _≡_, refl, ap, Bool, true, false, cond, List, [], _∷_, _++_, arith, eq-eqb, ne-eqb, eqb-true, eqb, length, take, drop}
+use Rattle.text.specs.{digits}
 use Rattle.text.proofs.Digits.{digits-ind, digits-small, digits-step}
-use Rattle.forest.specs.declared.Forest.{Forest}
-use Rattle.forest.specs.declared.Forest.the-variants.{Bare, Radiata, DouglasFir, ExoticSoftwoods, ExoticHardwoods, Indigenous}
-use Rattle.forest.specs.Letters.{lettersOf}
-use Rattle.statement_cursor.specs.Cursor.{widthTo}
+use Rattle.forest.specs.{Forest, lettersOf}
+use Rattle.statement_cursor.specs.{widthTo}
 
 -- no byte below 48
 unfoldable pub High : List ℕ → Type 0
@@ -37,12 +28,12 @@ high-digits =
 
 pub high-letters : (forest : Forest) → High (lettersOf forest)
 unfolding High lettersOf
-high-letters Bare = (omega arith, tt)
-high-letters (Radiata region) = (omega arith, (omega arith, tt))
-high-letters DouglasFir = (omega arith, tt)
-high-letters ExoticSoftwoods = (omega arith, tt)
-high-letters ExoticHardwoods = (omega arith, tt)
-high-letters Indigenous = (omega arith, tt)
+high-letters Forest.Bare = (omega arith, tt)
+high-letters (Forest.Radiata region) = (omega arith, (omega arith, tt))
+high-letters Forest.DouglasFir = (omega arith, tt)
+high-letters Forest.ExoticSoftwoods = (omega arith, tt)
+high-letters Forest.ExoticHardwoods = (omega arith, tt)
+high-letters Forest.Indigenous = (omega arith, tt)
 
 pub width-high : (end : ℕ) (bs rest : List ℕ) → end < 48 → High bs → widthTo end (bs ++ end ∷ rest) ≡ length bs
 unfolding High widthTo

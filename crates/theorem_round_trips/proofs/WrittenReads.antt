@@ -1,22 +1,9 @@
 -- What the writer writes is read as what it was: each line's fields stand one after the other, and each is read where it stands.
-use Prim.Native.Nat.{ℕ, _+_, _≤_, _<_}
-use mathlib.Core.Path.{_≡_, refl, ap}
-use mathlib.Core.Bool.{Bool, true, false}
-use mathlib.Core.List.{List, [], _∷_}
-use native.Mathlib.Omega.{arith}
-use lib.Dec.{eqb}
-use lib.ListN.{length, take}
-use Rattle.holding.specs.declared.Residue.{Residue}
-use Rattle.holding.specs.declared.Sub.{Sub}
-use Rattle.holding.specs.declared.Area.{Area}
-use Rattle.holding.specs.declared.Holding.{Holding}
-use Rattle.holding.specs.Holding.{mostAreas, mostSubs, areasOf, subsOf, emptySub, emptyArea}
-use Rattle.statement_format.specs.Format.{startText, numberText, typeText, texts, flag, residueText, subText, yearsText, amountsText, areaText, statementOf}
-use Rattle.statement_parse.specs.declared.SubRead.{SubRead}
-use Rattle.statement_parse.specs.declared.AmountsRead.{AmountsRead}
-use Rattle.statement_parse.specs.declared.AreaRead.{AreaRead}
-use Rattle.statement_parse.specs.Reading.{most8, most16, most32, mostRead, residueAt, subLineAt, subsFrom, subsAt, yearsAt, amountsAt, areaLineAt, areasFrom, areasAt, holdingAt}
-use Rattle.theorem_keeping.specs.Kept.{Kept}
+use Rattle.laws.proofs.{ℕ, _+_, _≤_, _<_, _≡_, refl, ap, Bool, true, false, List, [], _∷_, arith, eqb, length, take}
+use Rattle.holding.specs.{Residue, Sub, Area, Holding, mostAreas, mostSubs, areasOf, subsOf, emptySub, emptyArea}
+use Rattle.statement_format.specs.{startText, numberText, typeText, texts, flag, residueText, subText, yearsText, amountsText, areaText, statementOf}
+use Rattle.statement_parse.specs.{SubRead, AmountsRead, AreaRead, most8, most16, most32, mostRead, residueAt, subLineAt, subsFrom, subsAt, yearsAt, amountsAt, areaLineAt, areasFrom, areasAt, holdingAt}
+use Rattle.theorem_keeping.specs.{Kept}
 use Rattle.theorem_keeping.proofs.Register.{Register}
 use Rattle.theorem_keeping.proofs.Areas.{areaNumber, subNumber}
 use Rattle.theorem_round_trips.proofs.Places.{Stands, Pieces, piece-first, piece-rest, piece-last}

@@ -1,5 +1,5 @@
 -- A product of tenths, a rate and a small number fits 64 bits: each factor is below the power of two of its width.
-use Prim.Native.Nat.{ℕ, _*_, _≤_}
+use Rattle.laws.proofs.{ℕ, _*_, _≤_}
 use native.Mathlib.Nat.{mul-le-mul}
 
 pub product-fits : (land rate : ℕ) → land ≤ 4294967295 → rate ≤ 65535 → land * rate ≤ 4294967295 * 65535

@@ -1,15 +1,8 @@
 -- Rounding: the engine's change is the rounded difference, no change strays by more than half a tonne, and halves are fixed.
-use mathlib.Core.Path.{_≡_, refl, sym, ap, _∙_}
-use mathlib.Core.Bool.{Bool, true, false, cond}
-use Prim.Native.Nat.{ℕ, zero, suc, _+_, _*_, _-_, _/_, _≤_, _<_}
-use native.Mathlib.Omega.{arith}
-use lib.Dec.{leb}
+use Rattle.laws.proofs.{_≡_, refl, sym, ap, _∙_, Bool, true, false, cond, ℕ, zero, suc, _+_, _*_, _-_, _/_, _≤_, _<_, arith, leb, leb-true, leb-false}
 use lib.IntN.{ℤ, pos, negsuc, negℤ, natAbs, _-ℤ_, _*ℤ_}
-use borrow.Author.Tests.{leb-true, leb-false}
 use Rattle.laws.proofs.Signed.{ints, ℤ-same, one-side, neg-read, diff-read, times-read, abs-read}
-use Rattle.units.specs.declared.Kilograms.{Kilograms}
-use Rattle.units.specs.declared.Change.the-variants.{Gain, Loss}
-use Rattle.units.specs.Tonnes.{tonnes, nearestTonne, value, changeBetween}
+use Rattle.units.specs.{Kilograms, tonnes, nearestTonne, value, changeBetween, Change}
 
 -- halves up: the tonnes are the one number t with 1000 t - 500 ≤ kg < 1000 t + 500
 pub tonnes-halves-up : (kg t : ℕ) → 1000 * t ≤ kg + 500 → kg + 500 < 1000 * t + 1000 → tonnes kg ≡ t
@@ -35,7 +28,7 @@ within-half (negsuc kg) =
 -- the engine's change is worth the rounded difference
 module _ (opening closing : ℕ) where
   by-order : (t : Bool) → leb opening closing ≡ t
-      → value (cond t (Gain (tonnes (closing - opening))) (Loss (tonnes (opening - closing)))) ≡ nearestTonne (pos closing -ℤ pos opening)
+      → value (cond t (Change.Gain (tonnes (closing - opening))) (Change.Loss (tonnes (opening - closing)))) ≡ nearestTonne (pos closing -ℤ pos opening)
   unfolding value nearestTonne
   by-order true e =
       let h : opening ≤ closing = leb-true opening closing e in

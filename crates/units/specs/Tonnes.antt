@@ -1,11 +1,8 @@
 -- "Their difference in kg goes to the nearest tonne, exact halves away from zero: the change."
-use Prim.Native.Nat.{ℕ, suc, _+_, _-_, _/_}
-use mathlib.Core.Bool.{cond}
-use lib.Dec.{leb}
+use Rattle.laws.specs.{ℕ, suc, _+_, _-_, _/_, cond, leb}
 use lib.IntN.{ℤ, pos, negsuc, negℤ}
 use Rattle.units.specs.declared.Kilograms.{Kilograms}
 use Rattle.units.specs.declared.Change.{Change}
-use Rattle.units.specs.declared.Change.the-variants.{Gain, Loss}
 
 -- a size in kilograms to tonnes, halves up; "rounded to tonnes, half up" of emissions too
 unfoldable pub tonnes : ℕ → ℕ
@@ -18,12 +15,12 @@ nearestTonne (negsuc kg) = negℤ (pos (tonnes (suc kg)))
 
 -- what a change is worth
 unfoldable pub value : Change → ℤ
-value (Gain t) = pos t
-value (Loss t) = negℤ (pos t)
+value (Change.Gain t) = pos t
+value (Change.Loss t) = negℤ (pos t)
 
 -- the change from an opening stock to a closing stock
 unfoldable pub changeBetween : Kilograms → Kilograms → Change
 changeBetween opening closing =
     cond (leb (opening .0) (closing .0))
-    (Gain (tonnes (closing .0 - opening .0)))
-    (Loss (tonnes (opening .0 - closing .0)))
+    (Change.Gain (tonnes (closing .0 - opening .0)))
+    (Change.Loss (tonnes (opening .0 - closing .0)))

@@ -1,5 +1,5 @@
 -- "Tenths of a hectare, tenths of a tonne per hectare and kilograms are three units. Tenth times tenth is 10 kg, so stocks are exact in kilograms."
-use Prim.Native.Nat.{ℕ, _+_, _*_, _/_}
+use Rattle.laws.specs.{ℕ, _+_, _*_, _/_}
 use Rattle.units.specs.declared.Tenths.{Tenths}
 use Rattle.units.specs.declared.Rate.{Rate}
 use Rattle.units.specs.declared.Kilograms.{Kilograms}

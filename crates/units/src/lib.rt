@@ -2,8 +2,7 @@
 // Products alone turn tenths of a hectare and tenths of a tonne per hectare into kilograms.
 ghost use mathlib.Core.Path.{_≡_};
 ghost use Prim.Native.Nat.{_*_, _≤_};
-ghost use Rattle.units.specs.Units.{tenthsOf, treesOf, residueOf};
-ghost use Rattle.units.specs.Tonnes.{tonnes, changeBetween};
+ghost use Rattle.units.specs.{tenthsOf, treesOf, residueOf, tonnes, changeBetween};
 
 // Tenths of a hectare.
 pub struct Tenths(pub u32);

@@ -1,9 +1,8 @@
 -- `book_list::list` meets its contract: the listing is measured where there might be no room for it, and written where there is.
+use Rattle.laws.proofs.{needs}
 use Rattle.text.proofs.Writes.{wrote-length}
 use Rattle.statement_write.proofs.Writable.{refused, accepted}
 use Rattle.book_list.proofs.Room.{bounded, unmeasured}
-use borrow.Author.Needs.{needs}
-use Rattle.book_list.proofs.list.Statement.{statement}
 use Rattle.book_list.proofs.list.Tie as tie
 
 same-length : tie.Need-same-length
@@ -32,16 +31,6 @@ returns-3 c =
     let book = measure .before .before .before .before .before .args .book .now in
     accepted _ _ (measure .put-listing2 .ensures) (bounded book) _ _ _ (test .if2 .left) (put .put-listing3 .ensures)
 
-pub list-spec : {M : Type 1} → statement M
-list-spec =
-    tie.close
-    (tie.spec
-    (λ c κs. search needs)
-    same-length
-    returns
-    (λ c. search needs)
-    (λ c κs. search needs)
-    returns-2
-    (λ c κs. search needs)
-    same-length-2
-    returns-3)
+pub list-spec : {M : Type 1} → Rattle.book_list.proofs.list.Statement.statement M
+list-spec = tie.close (tie.spec (λ c κs. search needs) same-length returns (λ c. search needs) (λ c κs. search needs) returns-2 (λ c κs. search needs)
+    same-length-2 returns-3)

@@ -1,12 +1,10 @@
 -- `book_list::list_whole` meets its contract: there is room for any listing.
-use native.Mathlib.Omega.{arith}
+use Rattle.laws.proofs.{arith, needs}
 use Rattle.book_list.proofs.Room.{whole}
-use borrow.Author.Needs.{needs}
-use Rattle.book_list.proofs.list_whole.Statement.{statement}
 use Rattle.book_list.proofs.list_whole.Tie as tie
 
 returns : tie.Need-returns
 returns c = whole (c .before .before .before .args .book .now) (c .put-listing .ensures) (omega arith)
 
-pub list-whole-spec : {M : Type 1} → statement M
+pub list-whole-spec : {M : Type 1} → Rattle.book_list.proofs.list_whole.Statement.statement M
 list-whole-spec = tie.close (tie.spec (λ c κs. search needs) returns)

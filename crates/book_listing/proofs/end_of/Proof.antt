@@ -1,12 +1,7 @@
 -- `book_listing::end_of` meets its contract. The loop's invariant: the end of the line, seen from `end`, is where it was at its start.
-use Prim.Native.Nat.{_+_, _-_}
-use mathlib.Core.Path.{_≡_, refl}
-use native.Mathlib.Omega.{arith}
-use borrow.Author.Needs.{needs}
-use lib.ListN.{length, drop}
-use Rattle.book_listing.specs.Lines.{lineWidth}
+use Rattle.laws.proofs.{_+_, _-_, _≡_, refl, arith, needs, length, drop}
+use Rattle.book_listing.specs.{lineWidth}
 use Rattle.book_listing.proofs.Lines.{end-later, end-here, end-last}
-use Rattle.book_listing.proofs.end_of.Statement.{statement}
 use Rattle.book_listing.proofs.end_of.Tie as tie
 
 abbrev Inv-loop : tie.InvT-loop
@@ -28,16 +23,5 @@ loop-again c =
 returns-2 : tie.Need-returns-2 Inv-loop μ-loop
 returns-2 c = omega (arith, end-last (c .before .before .args .book .now) (c .before .loop .end) (c .loop-test .left))
 
-pub end-of-spec : {M : Type 1} → statement M
-end-of-spec =
-    tie.close
-    (tie.spec
-    Inv-loop
-    μ-loop
-    (λ c. refl)
-    (λ c. search needs)
-    returns
-    (λ c. search needs)
-    (λ c. omega arith)
-    loop-again
-    returns-2)
+pub end-of-spec : {M : Type 1} → Rattle.book_listing.proofs.end_of.Statement.statement M
+end-of-spec = tie.close (tie.spec Inv-loop μ-loop (λ c. refl) (λ c. search needs) returns (λ c. search needs) (λ c. omega arith) loop-again returns-2)

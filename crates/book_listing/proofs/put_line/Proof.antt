@@ -1,10 +1,8 @@
 -- `book_listing::put_line` meets its contract, by the verdict.
-use native.Mathlib.Omega.{arith}
+use Rattle.laws.proofs.{arith, needs}
 use Rattle.statement_field.proofs.Puts.{put-as, put-within}
 use Rattle.text.proofs.Writes.{wrote-length}
 use Rattle.book_listing.proofs.Printed.{accepted-prints, refused-prints}
-use borrow.Author.Needs.{needs}
-use Rattle.book_listing.proofs.put_line.Statement.{statement}
 use Rattle.book_listing.proofs.put_line.Tie as tie
 
 same-length : tie.Need-same-length
@@ -23,15 +21,6 @@ returns-2 c =
     let p = c .before .before in
     put-within (omega arith) (put-as (refused-prints _ _ _ (p .before .before .before .verdict .given .1)) (p .put-refusal .ensures))
 
-pub put-line-spec : {M : Type 1} → statement M
-put-line-spec =
-    tie.close
-    (tie.spec
-    (λ c. search needs)
-    (λ c κs. search needs)
-    (λ c. search needs)
-    (λ c κs. search needs)
-    same-length
-    returns
-    same-length-2
-    returns-2)
+pub put-line-spec : {M : Type 1} → Rattle.book_listing.proofs.put_line.Statement.statement M
+put-line-spec = tie.close (tie.spec (λ c. search needs) (λ c κs. search needs) (λ c. search needs) (λ c κs. search needs) same-length returns
+    same-length-2 returns-2)

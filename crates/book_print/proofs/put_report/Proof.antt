@@ -1,12 +1,9 @@
 -- `book_print::put_report` meets its contract, by what is reported.
-use native.Mathlib.Omega.{arith}
-use mathlib.Core.Path.{ap, sym}
-use Rattle.statement_format.specs.Format.{joined}
+use Rattle.laws.proofs.{arith, ap, sym, needs}
+use Rattle.statement_format.specs.{joined}
 use Rattle.statement_field.proofs.Puts.{put-none, put-then, put-last, put-as, put-within}
-use Rattle.book_print.specs.Printing.{reportText}
+use Rattle.book_print.specs.{reportText}
 use Rattle.book_print.proofs.Parts.{return-is}
-use borrow.Author.Needs.{needs}
-use Rattle.book_print.proofs.put_report.Statement.{statement}
 use Rattle.book_print.proofs.put_report.Tie as tie
 
 returns : tie.Need-returns
@@ -18,7 +15,7 @@ returns-2 c =
     let units = c .before .before in
     let change = units .before .before .before .before in
     let years = change .before .before .before .before in
-    put-as (return-is _ _ _ _ _ _ _ _ (years .before .before .before .report .given .1))
+    put-as (return-is _ _ (years .before .before .before .report .given .1))
     (put-then (years .put-years .ensures) (put-then (change .put-change .ensures) (units .put-units .ensures)))
 
 returns-3 : tie.Need-returns-3
@@ -30,21 +27,6 @@ returns-3 c =
     put-as (ap reportText (sym (letter .before .before .before .report2 .given .1)))
     (put-within (omega arith) (put-then (letter .put-start .ensures) (put-then (area .put-short .ensures) (put-last (due .put-field .ensures)))))
 
-pub put-report-spec : {M : Type 1} → statement M
-put-report-spec =
-    tie.close
-    (tie.spec
-    (λ c. search needs)
-    (λ c. search needs)
-    (λ c κs. tt)
-    (λ c κs. tt)
-    (λ c κs. tt)
-    (λ c. search needs)
-    (λ c κs. tt)
-    (λ c κs. tt)
-    (λ c κs. tt)
-    returns
-    (λ c. search needs)
-    returns-2
-    (λ c. search needs)
-    returns-3)
+pub put-report-spec : {M : Type 1} → Rattle.book_print.proofs.put_report.Statement.statement M
+put-report-spec = tie.close (tie.spec (λ c. search needs) (λ c. search needs) (λ c κs. tt) (λ c κs. tt) (λ c κs. tt) (λ c. search needs) (λ c κs. tt)
+    (λ c κs. tt) (λ c κs. tt) returns (λ c. search needs) returns-2 (λ c. search needs) returns-3)

@@ -1,8 +1,7 @@
 -- `book_print::put_years` meets its contract: a letter and three fields, one after the other.
-use Rattle.statement_format.specs.Format.{joined}
+use Rattle.laws.proofs.{needs}
+use Rattle.statement_format.specs.{joined}
 use Rattle.statement_field.proofs.Puts.{put-then, put-last}
-use borrow.Author.Needs.{needs}
-use Rattle.book_print.proofs.put_years.Statement.{statement}
 use Rattle.book_print.proofs.put_years.Tie as tie
 
 returns : tie.Need-returns
@@ -15,13 +14,5 @@ returns c =
     put-then (letter .put-start .ensures)
     (put-then (area .put-short .ensures) (put-then (first .put-short2 .ensures) (put-last (last .put-short3 .ensures))))
 
-pub put-years-spec : {M : Type 1} → statement M
-put-years-spec =
-    tie.close
-    (tie.spec
-    (λ c κs. tt)
-    (λ c κs. tt)
-    (λ c κs. tt)
-    (λ c κs. tt)
-    (λ c. search needs)
-    returns)
+pub put-years-spec : {M : Type 1} → Rattle.book_print.proofs.put_years.Statement.statement M
+put-years-spec = tie.close (tie.spec (λ c κs. tt) (λ c κs. tt) (λ c κs. tt) (λ c κs. tt) (λ c. search needs) returns)

@@ -1,11 +1,8 @@
 -- `book_run::extend` meets its contract, by the turn's column.
-use mathlib.Core.Path.{_≡_, sym, ap}
-use lib.ListN.{length}
-use Rattle.table.specs.Participant.{longestTable}
-use Rattle.book_run.specs.Tables.{tableBy}
+use Rattle.laws.proofs.{_≡_, sym, ap, length, needs}
+use Rattle.table.specs.{longestTable}
+use Rattle.book_run.specs.{tableBy}
 use Rattle.book_run.proofs.Turns.{table-grown}
-use borrow.Author.Needs.{needs}
-use Rattle.book_run.proofs.extend.Statement.{statement}
 use Rattle.book_run.proofs.extend.Tie as tie
 
 long : (c : tie.After-grow) → length (c .grow .result .numbers) ≡ longestTable
@@ -26,15 +23,6 @@ returns-2 c =
       whole = c .before .before .before .pre .1;
     }
 
-pub extend-spec : {M : Type 1} → statement M
-extend-spec =
-    tie.close
-    (tie.spec
-    (λ c. search needs)
-    (λ c. search needs)
-    (λ c. search needs)
-    (λ c. search needs)
-    (λ c κs. search needs)
-    (λ c. search needs)
-    returns
-    returns-2)
+pub extend-spec : {M : Type 1} → Rattle.book_run.proofs.extend.Statement.statement M
+extend-spec = tie.close (tie.spec (λ c. search needs) (λ c. search needs) (λ c. search needs) (λ c. search needs) (λ c κs. search needs)
+    (λ c. search needs) returns returns-2)

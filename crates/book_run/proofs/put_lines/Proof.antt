@@ -1,30 +1,23 @@
 -- `book_run::put_lines` meets its contract. The loop's invariant: what is listed from here on, put behind what was put, makes the whole listing.
-use Prim.Native.Nat.{ℕ, _+_, _-_, _≤_}
-use mathlib.Core.Path.{_≡_, refl, sym, ap, _∙_}
-use mathlib.Core.Logic.{⊎-elim}
-use mathlib.Core.List.{List, []}
-use native.Mathlib.Omega.{arith}
+use Rattle.laws.proofs.{ℕ, _+_, _-_, _≤_, _≡_, refl, sym, ap, _∙_, ⊎-elim, List, [], arith, length, take, drop, needs}
 use native.Mathlib.Nat.{sub-zero}
-use lib.ListN.{length, take, drop}
-use Rattle.text.specs.Writing.{Wrote}
+use Rattle.text.specs.{Wrote}
 use Rattle.text.proofs.Writes.{wrote-then, wrote-as, wrote-length}
-use Rattle.holding.specs.declared.Holding.{Holding}
-use Rattle.holding_look.specs.Standing.{areaAt}
+use Rattle.holding.specs.{Holding}
+use Rattle.holding_look.specs.{areaAt}
 use Rattle.holding_look.proofs.Laws.{area-here, area-out, area-nowhere}
-use Rattle.step_outcome.specs.Outcomes.{placed}
+use Rattle.step_outcome.specs.{placed}
 use Rattle.step_outcome.proofs.Laws.{placed-here, placed-out, placed-nowhere}
-use Rattle.book_listing.specs.Lines.{linesOf}
-use Rattle.book_listing.specs.Listing.{Run, start, listFrom}
+use Rattle.table.specs.{longestTable}
+use Rattle.book_listing.specs.{linesOf, Run, start, listFrom, longestBook}
 use Rattle.book_listing.proofs.Lines.{end-within}
 use Rattle.book_listing.proofs.Folding.{from-line, from-none}
 use Rattle.book_run.proofs.Following.{placed-long, turn-is-of, turn-prints, turn-runs}
-use borrow.Author.Needs.{needs}
-use Rattle.book_run.proofs.put_lines.Statement.{statement}
 use Rattle.book_run.proofs.put_lines.Tie as tie
 
 abbrev Inv-loop : tie.InvT-loop
 Inv-loop book out₀ default holding₀ table₀ count₀ accepted₀ refused₀ at₀ i₀ out holding table count accepted refused at i =
-    (i ≤ length book + 1) × (accepted + refused ≤ i) × (count ≤ 1020) × (length table ≡ 1020) × (length (holding .areas) ≡ 16) × (length out ≡ length out₀)
+    (i ≤ length book + 1) × (accepted + refused ≤ i) × (count ≤ longestTable) × (length table ≡ longestTable) × (length (holding .areas) ≡ 16) × (length out ≡ length out₀)
     × ((o : List ℕ) (p : ℕ)
     → Wrote out at (listFrom (record { own = take count table; holding = holding; accepted = accepted; refused = refused }) (linesOf (drop i book))) o p
     → Wrote out₀ 0 (listFrom start (linesOf book)) o p)
@@ -72,7 +65,7 @@ ended c =
     omega (arith, c .end-of .ensures, within)
 
 -- no more lines were counted than the book has bytes
-few : (c : tie.At-match-came Inv-loop μ-loop) → let l = loopOf c .loop in l .accepted + l .refused ≤ 65536
+few : (c : tie.At-match-came Inv-loop μ-loop) → let l = loopOf c .loop in l .accepted + l .refused ≤ longestBook
 few c = let l = loopOf c in omega (arith, l .loop .inv .1, endOf c .before .loop-test .taken, l .before .before .before .before .before .pre)
 
 -- the area looked up
@@ -143,52 +136,22 @@ returns c =
     let l = test .before in
     l .loop .inv .6 _ _ (wrote-as (from-none (runOf l) _ (l .loop .i) (test .loop-test .left)) (put .put-end .ensures .wrote))
 
-pub put-lines-spec : {M : Type 1} → statement M
-put-lines-spec =
-    tie.close
-    (tie.spec
-    Inv-loop
-    μ-loop
-    (λ c κs. search needs)
-    (λ c κs. search needs)
-    loop-holds
-    (λ c κs. search needs)
-    (λ c. omega (arith, ended c))
-    (λ c. omega (arith, ended c))
-    (λ c. omega (arith, ended c))
-    (λ c κs. search needs)
-    (λ c κs. search needs)
-    (λ c κs. search needs)
-    (λ c. search needs)
-    (λ c. omega arith)
+pub put-lines-spec : {M : Type 1} → Rattle.book_run.proofs.put_lines.Statement.statement M
+put-lines-spec = tie.close (tie.spec Inv-loop μ-loop (λ c κs. search needs) (λ c κs. search needs) loop-holds (λ c κs. search needs)
+    (λ c. omega (arith, ended c)) (λ c. omega (arith, ended c)) (λ c. omega (arith, ended c)) (λ c κs. search needs) (λ c κs. search needs)
+    (λ c κs. search needs) (λ c. search needs) (λ c. omega arith)
     (λ c. omega (arith, c .if1 .taken, c .before .before .before .before .before .before .before .before .before .before .loop .inv .4))
-    (λ c. search needs)
-    (λ c. omega arith)
-    (λ c. omega arith)
-    (λ c. omega arith)
-    (λ c. search needs)
-    (λ c. omega (arith, ended (endOf (c .before .before .before))))
-    (λ c. omega (arith, ended (endOf (c .before .before .before))))
-    (λ c. omega (arith, ended (endOf (c .before .before .before))))
-    (λ c κs. search needs)
+    (λ c. search needs) (λ c. omega arith) (λ c. omega arith) (λ c. omega arith) (λ c. search needs)
+    (λ c. omega (arith, ended (endOf (c .before .before .before)))) (λ c. omega (arith, ended (endOf (c .before .before .before))))
+    (λ c. omega (arith, ended (endOf (c .before .before .before)))) (λ c κs. search needs)
     (λ c. omega (arith, ended (endOf (c .before .before .before .before .before .before))))
     (λ c. omega (arith, ended (endOf (c .before .before .before .before .before .before))))
-    (λ c. omega (arith, ended (endOf (c .before .before .before .before .before .before))))
-    (λ c κs. search needs)
+    (λ c. omega (arith, ended (endOf (c .before .before .before .before .before .before)))) (λ c κs. search needs)
     (λ c. omega (arith, few (c .before .before .before .before .before .before .before .before .before .before)))
-    (λ c. omega (arith, few (c .before .before .before .before .before .before .before .before .before .before)))
-    (λ c κs. search needs)
+    (λ c. omega (arith, few (c .before .before .before .before .before .before .before .before .before .before))) (λ c κs. search needs)
     (λ c κs. search needs)
     (λ c. omega (arith, c .counted .ensures .1, few (c .before .before .before .before .before .before .before .before .before .before .before .before .before .before)))
     (λ c. omega (arith, c .counted .ensures .1))
     (λ c. omega (arith, c .counted .ensures .1, few (c .before .before .before .before .before .before .before .before .before .before .before .before .before .before)))
-    (λ c. search needs)
-    (λ c. omega arith)
-    (λ c. search needs)
-    (λ c. search needs)
-    add-i
-    loop-less
-    loop-again
-    (λ c κs. search needs)
-    same-length
+    (λ c. search needs) (λ c. omega arith) (λ c. search needs) (λ c. search needs) add-i loop-less loop-again (λ c κs. search needs) same-length
     returns)

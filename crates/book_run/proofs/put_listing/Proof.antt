@@ -1,9 +1,7 @@
 -- `book_run::put_listing` meets its contract, by the length of the book.
-use mathlib.Core.Path.{_∙_}
+use Rattle.laws.proofs.{_∙_, needs}
 use Rattle.text.proofs.Writes.{wrote-then, wrote-as, wrote-length}
 use Rattle.book_listing.proofs.Folding.{listing-over, listing-lines}
-use borrow.Author.Needs.{needs}
-use Rattle.book_run.proofs.put_listing.Statement.{statement}
 use Rattle.book_run.proofs.put_listing.Tie as tie
 
 same-length : tie.Need-same-length
@@ -25,14 +23,6 @@ returns-2 c =
     let lines = c .before .before in
     wrote-as (listing-lines _ (lines .before .before .if1 .left)) (lines .put-lines .ensures)
 
-pub put-listing-spec : {M : Type 1} → statement M
-put-listing-spec =
-    tie.close
-    (tie.spec
-    (λ c κs. search needs)
-    (λ c κs. search needs)
-    same-length
-    returns
-    (λ c κs. search needs)
-    same-length-2
+pub put-listing-spec : {M : Type 1} → Rattle.book_run.proofs.put_listing.Statement.statement M
+put-listing-spec = tie.close (tie.spec (λ c κs. search needs) (λ c κs. search needs) same-length returns (λ c κs. search needs) same-length-2
     returns-2)

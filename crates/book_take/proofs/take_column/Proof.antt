@@ -1,7 +1,6 @@
 -- `book_take::take_column` meets its contract, by the verdict of the table that grows.
+use Rattle.laws.proofs.{needs}
 use Rattle.book_take.proofs.Laws.{column-turned, column-taken}
-use borrow.Author.Needs.{needs}
-use Rattle.book_take.proofs.take_column.Statement.{statement}
 use Rattle.book_take.proofs.take_column.Tie as tie
 
 returns : tie.Need-returns
@@ -14,14 +13,6 @@ returns-2 c =
     let told = c .before in
     column-taken _ _ _ _ _ (told .before .before .grow .ensures) _ (told .enum-told .given .1) (c .empty-area .ensures)
 
-pub take-column-spec : {M : Type 1} → statement M
-take-column-spec =
-    tie.close
-    (tie.spec
-    (λ c κs. search needs)
-    (λ c. search needs)
-    (λ c κs. search needs)
-    (λ c. search needs)
-    (λ c κs. search needs)
-    returns
-    returns-2)
+pub take-column-spec : {M : Type 1} → Rattle.book_take.proofs.take_column.Statement.statement M
+take-column-spec = tie.close (tie.spec (λ c κs. search needs) (λ c. search needs) (λ c κs. search needs) (λ c. search needs) (λ c κs. search needs)
+    returns returns-2)

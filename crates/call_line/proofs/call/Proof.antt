@@ -1,11 +1,8 @@
 -- `call_line::call` meets its contract: a refused line decides, then a refused table, and then the entry.
-use mathlib.Core.Path.{sym, ap, _∙_}
-use native.Mathlib.Omega.{arith}
-use Rattle.call_line.specs.Parts.{refusedBy}
+use Rattle.laws.proofs.{sym, ap, _∙_, arith, needs}
+use Rattle.call_line.specs.{refusedBy}
 use Rattle.call_line.proofs.Order.{line-decides, table-decides}
 use Rattle.call_line.proofs.Given.{call-refused, call-given, table-refused, table-read}
-use borrow.Author.Needs.{needs}
-use Rattle.call_line.proofs.call.Statement.{statement}
 use Rattle.call_line.proofs.call.Tie as tie
 
 returns : tie.Need-returns
@@ -43,23 +40,7 @@ returns-3 c =
     call-given (a .statement .now) (a .table .now) (a .line .now) (a .out .now) _ _ _ _ (sym (p .parse .ensures) ∙ e .parsed .given .1)
     (table .clear) (table .front _ _ (t .read-table .ensures .1)) (w .take-entry .ensures)
 
-pub call-spec : {M : Type 1} → statement M
-call-spec =
-    tie.close
-    (tie.spec
-    (λ c κs. search needs)
-    (λ c. search needs)
-    (λ c. search needs)
-    (λ c κs. search needs)
-    returns
-    (λ c. search needs)
-    (λ c κs. search needs)
-    (λ c. search needs)
-    (λ c. search needs)
-    (λ c. search needs)
-    (λ c. search needs)
-    part-take-entry-end
-    (λ c κs. search needs)
-    returns-2
-    (λ c. search needs)
-    returns-3)
+pub call-spec : {M : Type 1} → Rattle.call_line.proofs.call.Statement.statement M
+call-spec = tie.close (tie.spec (λ c κs. search needs) (λ c. search needs) (λ c. search needs) (λ c κs. search needs) returns (λ c. search needs)
+    (λ c κs. search needs) (λ c. search needs) (λ c. search needs) (λ c. search needs) (λ c. search needs) part-take-entry-end (λ c κs. search needs)
+    returns-2 (λ c. search needs) returns-3)

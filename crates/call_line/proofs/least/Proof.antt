@@ -1,8 +1,6 @@
 -- `call_line::least` meets its contract: where both verdicts are refusals, their numbers decide.
-use native.Mathlib.Omega.{arith}
+use Rattle.laws.proofs.{arith, needs}
 use Rattle.call_line.proofs.Given.{first-least, second-least, only-first}
-use borrow.Author.Needs.{needs}
-use Rattle.call_line.proofs.least.Statement.{statement}
 use Rattle.call_line.proofs.least.Tie as tie
 
 returns : tie.Need-returns
@@ -22,17 +20,6 @@ returns-4 c =
     let first = numbers .before .before .before .before .before .before .a in
     second-least _ _ _ _ (first .given .1) (second .given .1) (omega (arith, c .if1 .left, numbers .number2 .ensures, numbers .before .number .ensures))
 
-pub least-spec : {M : Type 1} → statement M
-least-spec =
-    tie.close
-    (tie.spec
-    (λ c. search needs)
-    (λ c. search needs)
-    (λ c. search needs)
-    (λ c. search needs)
-    (λ c κs. search needs)
-    (λ c κs. search needs)
-    returns
-    (λ c. search needs)
-    returns-3
-    returns-4)
+pub least-spec : {M : Type 1} → Rattle.call_line.proofs.least.Statement.statement M
+least-spec = tie.close (tie.spec (λ c. search needs) (λ c. search needs) (λ c. search needs) (λ c. search needs) (λ c κs. search needs)
+    (λ c κs. search needs) returns (λ c. search needs) returns-3 returns-4)

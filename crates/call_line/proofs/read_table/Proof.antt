@@ -1,8 +1,6 @@
 -- `call_line::read_table` meets its contract: what was decoded stands in front, and is judged.
-use native.Mathlib.Omega.{arith}
+use Rattle.laws.proofs.{arith, needs}
 use Rattle.call_line.proofs.Given.{decoded-as, undecoded, decoded-few, judged-refused, judged-clear}
-use borrow.Author.Needs.{needs}
-use Rattle.call_line.proofs.read_table.Statement.{statement}
 use Rattle.call_line.proofs.read_table.Tie as tie
 
 part-judge-end : tie.Need-part-judge-end
@@ -37,22 +35,7 @@ returns-3 c =
     let decoded = decoded-as (s .args .table .now) (s .args .numbers .now) _ _ (s .pre) (d .decode .ensures .0) (d .decode .ensures .1) in
     (judged-clear decoded _ (told .decoded2 .given .1) _ (j .judge .ensures) (c .enum-told .given .1), decoded .left)
 
-pub read-table-spec : {M : Type 1} → statement M
-read-table-spec =
-    tie.close
-    (tie.spec
-    (λ c κs. search needs)
-    (λ c. search needs)
-    (λ c. search needs)
-    (λ c. search needs)
-    (λ c. search needs)
-    part-judge-end
-    (λ c κs. search needs)
-    (λ c. search needs)
-    (λ c. search needs)
-    (λ c. search needs)
-    returns
-    (λ c. search needs)
-    returns-2
-    (λ c. search needs)
-    returns-3)
+pub read-table-spec : {M : Type 1} → Rattle.call_line.proofs.read_table.Statement.statement M
+read-table-spec = tie.close (tie.spec (λ c κs. search needs) (λ c. search needs) (λ c. search needs) (λ c. search needs) (λ c. search needs)
+    part-judge-end (λ c κs. search needs) (λ c. search needs) (λ c. search needs) (λ c. search needs) returns (λ c. search needs) returns-2
+    (λ c. search needs) returns-3)

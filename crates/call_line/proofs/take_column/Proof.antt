@@ -1,9 +1,7 @@
 -- `call_line::take_column` meets its contract: a verdict that is clear has grown the table, which stands in front of the numbers.
-use mathlib.Core.Path.{sym, ap, _∙_}
-use Rattle.call_output.specs.Outputs.{tableBytes}
+use Rattle.laws.proofs.{sym, ap, _∙_, needs}
+use Rattle.call_output.specs.{tableBytes}
 use Rattle.call_line.proofs.Given.{gives-refused, gives-written, gives-as, column-weighed, column-fits, column-front}
-use borrow.Author.Needs.{needs}
-use Rattle.call_line.proofs.take_column.Statement.{statement}
 use Rattle.call_line.proofs.take_column.Tie as tie
 
 part-write-table-end : tie.Need-part-write-table-end
@@ -33,19 +31,6 @@ returns-2 c =
     (ap tableBytes (column-front _ _ _ _ _ _ _ (f .read-from .ensures) (g .grow .ensures) (l .least .ensures) clear))
     (gives-written _ _ _ _ _ clear (w .write-table .ensures))
 
-pub take-column-spec : {M : Type 1} → statement M
-take-column-spec =
-    tie.close
-    (tie.spec
-    (λ c κs. search needs)
-    (λ c κs. search needs)
-    (λ c κs. search needs)
-    (λ c. search needs)
-    (λ c. search needs)
-    (λ c. search needs)
-    (λ c. search needs)
-    part-write-table-end
-    (λ c κs. search needs)
-    returns
-    (λ c. search needs)
-    returns-2)
+pub take-column-spec : {M : Type 1} → Rattle.call_line.proofs.take_column.Statement.statement M
+take-column-spec = tie.close (tie.spec (λ c κs. search needs) (λ c κs. search needs) (λ c κs. search needs) (λ c. search needs) (λ c. search needs)
+    (λ c. search needs) (λ c. search needs) part-write-table-end (λ c κs. search needs) returns (λ c. search needs) returns-2)

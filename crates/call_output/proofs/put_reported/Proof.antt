@@ -1,6 +1,6 @@
 -- `call_output::put_reported` meets its contract: the statement, and the report behind it.
+use Rattle.laws.proofs.{needs}
 use Rattle.statement_field.proofs.Puts.{put-then}
-use borrow.Author.Needs.{needs}
 use Rattle.call_output.proofs.put_reported.Statement.{statement}
 use Rattle.call_output.proofs.put_reported.Tie as tie
 

@@ -1,13 +1,7 @@
 -- `call_output::put_table` meets its contract. The loop's invariant: storing what is left stores all.
-use Prim.Native.Nat.{_≤_, _-_, _*_}
-use mathlib.Core.Path.{_≡_, refl, _∙_}
-use native.Mathlib.Omega.{arith}
-use lib.ListN.{length, drop, length-set}
-use lib.Seq.{sets}
-use Rattle.call_output.specs.Outputs.{tableBytes}
+use Rattle.laws.proofs.{_≤_, _-_, _*_, _≡_, refl, _∙_, arith, length, drop, length-set, sets, needs}
+use Rattle.call_output.specs.{tableBytes}
 use Rattle.call_output.proofs.TableBytes.{bytes-stored, bytes-end}
-use borrow.Author.Needs.{needs}
-use Rattle.call_output.proofs.put_table.Statement.{statement}
 use Rattle.call_output.proofs.put_table.Tie as tie
 
 abbrev Inv-loop : tie.InvT-loop
@@ -37,24 +31,7 @@ returns c = bytes-end (c .before .before .args .numbers .now) (c .before .loop .
 slice-write-out-2 : tie.Need-slice-write-out-2 Inv-loop μ-loop
 slice-write-out-2 c = simp length-set (omega arith)
 
-pub put-table-spec : {M : Type 1} → statement M
-put-table-spec =
-    tie.close
-    (tie.spec
-    Inv-loop
-    μ-loop
-    loop-holds
-    (λ c. search needs)
-    (λ c. search needs)
-    (λ c. search needs)
-    (λ c. search needs)
-    (λ c. search needs)
-    cast-out-2
-    (λ c. search needs)
-    (λ c. search needs)
-    slice-write-out-2
-    (λ c. search needs)
-    (λ c. search needs)
-    loop-again
-    (λ c. search needs)
-    returns)
+pub put-table-spec : {M : Type 1} → Rattle.call_output.proofs.put_table.Statement.statement M
+put-table-spec = tie.close (tie.spec Inv-loop μ-loop loop-holds (λ c. search needs) (λ c. search needs) (λ c. search needs) (λ c. search needs)
+    (λ c. search needs) cast-out-2 (λ c. search needs) (λ c. search needs) slice-write-out-2 (λ c. search needs) (λ c. search needs) loop-again
+    (λ c. search needs) returns)

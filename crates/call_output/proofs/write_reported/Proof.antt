@@ -1,9 +1,7 @@
 -- `call_output::write_reported` meets its contract: the bytes are measured where there might be no room for them, and written where there is.
-use native.Mathlib.Omega.{arith}
+use Rattle.laws.proofs.{arith, needs}
 use Rattle.text.proofs.Writes.{wrote-length}
 use Rattle.statement_write.proofs.Writable.{refused, accepted}
-use borrow.Author.Needs.{needs}
-use Rattle.call_output.proofs.write_reported.Statement.{statement}
 use Rattle.call_output.proofs.write_reported.Tie as tie
 
 same-length : tie.Need-same-length
@@ -29,16 +27,6 @@ returns-3 c =
     let measured = test .before .before .put-reported2 .ensures in
     accepted _ _ (measured .wrote) (omega (arith, measured .few)) _ _ _ (test .if2 .left) (done .put-reported3 .ensures .wrote)
 
-pub write-reported-spec : {M : Type 1} → statement M
-write-reported-spec =
-    tie.close
-    (tie.spec
-    (λ c κs. search needs)
-    same-length
-    returns
-    (λ c. search needs)
-    (λ c κs. search needs)
-    returns-2
-    (λ c κs. search needs)
-    same-length-2
-    returns-3)
+pub write-reported-spec : {M : Type 1} → Rattle.call_output.proofs.write_reported.Statement.statement M
+write-reported-spec = tie.close (tie.spec (λ c κs. search needs) same-length returns (λ c. search needs) (λ c κs. search needs) returns-2
+    (λ c κs. search needs) same-length-2 returns-3)

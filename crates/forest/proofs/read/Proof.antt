@@ -1,8 +1,6 @@
 -- `forest::read` meets its contract, by how many bytes there are.
-use mathlib.Core.Path.{_∙_}
-use borrow.Author.Needs.{needs}
+use Rattle.laws.proofs.{_∙_, needs}
 use Rattle.forest.proofs.Laws.{one-byte, two-bytes, no-radiata, no-letters}
-use Rattle.forest.proofs.read.Statement.{statement}
 use Rattle.forest.proofs.read.Tie as tie
 
 shared-slice-read-letter-names : tie.Need-shared-slice-read-letter-names
@@ -32,16 +30,6 @@ returns-3 c = no-radiata _ (c .before .before .if2 .taken) (c .if3 .left)
 returns-4 : tie.Need-returns-4
 returns-4 c = no-letters _ (c .before .if1 .left) (c .if2 .left)
 
-pub read-spec : {M : Type 1} → statement M
-read-spec =
-    tie.close
-    (tie.spec
-    shared-slice-read-letter-names
-    letter-names-requires
-    returns
-    shared-slice-read-if3
-    shared-slice-read-region-names
-    region-names-requires
-    returns-2
-    returns-3
-    returns-4)
+pub read-spec : {M : Type 1} → Rattle.forest.proofs.read.Statement.statement M
+read-spec = tie.close (tie.spec shared-slice-read-letter-names letter-names-requires returns shared-slice-read-if3 shared-slice-read-region-names
+    region-names-requires returns-2 returns-3 returns-4)

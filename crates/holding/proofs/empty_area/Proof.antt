@@ -1,10 +1,9 @@
 -- `holding::empty_area` meets its contract: sixteen places hold the empty sub-area.
-use borrow.Author.Needs.{needs}
-use Rattle.holding.proofs.empty_area.Statement.{statement}
+use Rattle.laws.proofs.{needs}
 use Rattle.holding.proofs.empty_area.Tie as tie
 
 returns : tie.Need-returns
 returns c = simp (c .empty-sub .ensures)
 
-pub empty-area-spec : {M : Type 1} → statement M
+pub empty-area-spec : {M : Type 1} → Rattle.holding.proofs.empty_area.Statement.statement M
 empty-area-spec = tie.close (tie.spec (λ c κs. search needs) returns)

@@ -1,18 +1,15 @@
--- `holding_look::area_in` meets its contract: the place is within the sixteen.
-use mathlib.Core.Path.{_≡_, refl}
-use native.Mathlib.Omega.{arith}
-use lib.ListN.{length}
+-- `holding_look::area_in` meets its contract: the place is within the all-places.
+use Rattle.laws.proofs.{_≡_, refl, arith, length, needs}
 use Rattle.laws.proofs.Standing.{as-long}
+use Rattle.holding.specs.{mostAreas}
 use Rattle.holding_look.proofs.Laws.{area-here}
-use borrow.Author.Needs.{needs}
-use Rattle.holding_look.proofs.area_in.Statement.{statement}
 use Rattle.holding_look.proofs.area_in.Tie as tie
 
-sixteen : (c : tie.Start) → length (c .args .t1 .areas) ≡ 16
-sixteen c = search (needs, as-long)
+all-places : (c : tie.Start) → length (c .args .t1 .areas) ≡ mostAreas
+all-places c = search (needs, as-long)
 
 returns : tie.Need-returns
-returns c = area-here _ _ _ _ refl (omega (arith, sixteen (c .before)))
+returns c = area-here _ _ _ _ refl (omega (arith, all-places (c .before)))
 
-pub area-in-spec : {M : Type 1} → statement M
+pub area-in-spec : {M : Type 1} → Rattle.holding_look.proofs.area_in.Statement.statement M
 area-in-spec = tie.close (tie.spec (λ c. search needs) (λ c. search needs) returns)

@@ -1,33 +1,21 @@
 -- `holding_look::with_sub` meets its contract, by what the search found: a store past the array's end changes nothing.
-use mathlib.Core.Path.{_≡_}
-use native.Mathlib.Omega.{arith}
-use lib.ListN.{length}
+use Rattle.laws.proofs.{_≡_, arith, length, needs}
 use Rattle.laws.proofs.Standing.{as-long}
+use Rattle.holding.specs.{mostSubs}
 use Rattle.holding_look.proofs.Laws.{put-here, put-out, put-nowhere}
-use borrow.Author.Needs.{needs}
-use Rattle.holding_look.proofs.with_sub.Statement.{statement}
 use Rattle.holding_look.proofs.with_sub.Tie as tie
 
-sixteen : (c : tie.Start) → length (c .args .area .subs) ≡ 16
-sixteen c = search (needs, as-long)
+all-places : (c : tie.Start) → length (c .args .area .subs) ≡ mostSubs
+all-places c = search (needs, as-long)
 
 returns : tie.Need-returns
 returns c = put-here _ _ _ _ _ (c .before .before .found .given .1)
 
 returns-2 : tie.Need-returns-2
-returns-2 c = put-out _ _ _ _ _ (c .before .before .found .given .1) (omega (arith, sixteen (c .before .before .before .before)))
+returns-2 c = put-out _ _ _ _ _ (c .before .before .found .given .1) (omega (arith, all-places (c .before .before .before .before)))
 
 returns-3 : tie.Need-returns-3
 returns-3 c = put-nowhere _ _ _ _ (c .enum-told .given .1)
 
-pub with-sub-spec : {M : Type 1} → statement M
-with-sub-spec =
-    tie.close
-    (tie.spec
-    (λ c. search needs)
-    (λ c. search needs)
-    (λ c. search needs)
-    (λ c. search needs)
-    returns
-    returns-2
-    returns-3)
+pub with-sub-spec : {M : Type 1} → Rattle.holding_look.proofs.with_sub.Statement.statement M
+with-sub-spec = tie.close (tie.spec (λ c. search needs) (λ c. search needs) (λ c. search needs) (λ c. search needs) returns returns-2 returns-3)

@@ -1,15 +1,10 @@
 -- `land_clearings::counting` meets its contract: setting the clearings left against the oldest so far gives the one that counts.
-use Prim.Native.Nat.{_-_}
-use mathlib.Core.Path.{_≡_}
+use Rattle.laws.proofs.{_-_, _≡_, arith, needs, length, take, drop}
 use mathlib.Core.List.{foldl}
-use native.Mathlib.Omega.{arith}
-use borrow.Author.Needs.{needs}
-use lib.ListN.{length, take, drop}
 use Rattle.laws.proofs.Standing.{as-long}
 use Rattle.laws.proofs.Turns.{fold-end, fold-out, fold-more}
-use Rattle.land_clearings.specs.Counting.{countingOf}
+use Rattle.land_clearings.specs.{countingOf}
 use Rattle.land_clearings.proofs.Window.{next, own-counts, oldest-counts}
-use Rattle.land_clearings.proofs.counting.Statement.{statement}
 use Rattle.land_clearings.proofs.counting.Tie as tie
 
 abbrev Inv-loop : tie.InvT-loop
@@ -41,20 +36,6 @@ returns-3 c =
     let s = b .before .before .before in
     fold-out (next (s .args .own)) (s .args .t2) (s .args .count) (b .loop .i) _ _ (b .loop .inv) (omega (arith, long s))
 
-pub counting-spec : {M : Type 1} → statement M
-counting-spec =
-    tie.close
-    (tie.spec
-    Inv-loop
-    μ-loop
-    (λ c κs. search needs)
-    returns
-    loop-holds
-    returns-2
-    (λ c. search needs)
-    (λ c. search needs)
-    (λ c κs. search needs)
-    (λ c. search needs)
-    (λ c. search needs)
-    loop-again
-    returns-3)
+pub counting-spec : {M : Type 1} → Rattle.land_clearings.proofs.counting.Statement.statement M
+counting-spec = tie.close (tie.spec Inv-loop μ-loop (λ c κs. search needs) returns loop-holds returns-2 (λ c. search needs) (λ c. search needs)
+    (λ c κs. search needs) (λ c. search needs) (λ c. search needs) loop-again returns-3)

@@ -1,15 +1,9 @@
 -- `land_deforestation::calculate` meets its contract, by the verdict.
-use Prim.Native.Nat.{ℕ}
-use mathlib.Core.Path.{sym, ap, _∙_}
-use mathlib.Core.List.{List}
-use borrow.Author.Needs.{needs}
-use lib.ListN.{take}
-use Rattle.laws.specs.Elements.{sumBy}
-use Rattle.refusals.specs.declared.Verdict.{Verdict}
-use Rattle.units.specs.Tonnes.{tonnes}
-use Rattle.land_deforestation.specs.declared.Emissions.the-variants.{Tonnes}
-use Rattle.land_deforestation.specs.Emissions.{kilogramsOf, answerOf, emissionsOf}
-use Rattle.land_deforestation.proofs.calculate.Statement.{statement}
+use Rattle.laws.proofs.{ℕ, sym, ap, _∙_, List, needs, take}
+use Rattle.laws.specs.{sumBy}
+use Rattle.refusals.specs.{Verdict}
+use Rattle.units.specs.{tonnes}
+use Rattle.land_deforestation.specs.{kilogramsOf, answerOf, emissionsOf, Emissions}
 use Rattle.land_deforestation.proofs.calculate.Tie as tie
 
 returns : tie.Need-returns
@@ -27,18 +21,8 @@ returns-2 c =
     let a = j .before .args in
     let ps = take (a .count) (a .parcels) in
     let kg = c .before .total .ensures ∙ ap (λ (cells : List ℕ). sumBy (kilogramsOf cells) ps) (s .schedule-four .ensures) in
-    ap Tonnes (c .to-tonnes .ensures ∙ ap tonnes kg) ∙ ap (λ (v : Verdict). answerOf v ps) (sym (s .before .enum-told .given .1) ∙ j .judge .ensures)
+    ap Emissions.Tonnes (c .to-tonnes .ensures ∙ ap tonnes kg) ∙ ap (λ (v : Verdict). answerOf v ps) (sym (s .before .enum-told .given .1) ∙ j .judge .ensures)
 
-pub calculate-spec : {M : Type 1} → statement M
-calculate-spec =
-    tie.close
-    (tie.spec
-    (λ c κs. search needs)
-    (λ c. search needs)
-    returns
-    (λ c. search needs)
-    (λ c κs. search needs)
-    (λ c. search needs)
-    (λ c κs. search needs)
-    (λ c κs. search needs)
-    returns-2)
+pub calculate-spec : {M : Type 1} → Rattle.land_deforestation.proofs.calculate.Statement.statement M
+calculate-spec = tie.close (tie.spec (λ c κs. search needs) (λ c. search needs) returns (λ c. search needs) (λ c κs. search needs) (λ c. search needs)
+    (λ c κs. search needs) (λ c κs. search needs) returns-2)

@@ -1,19 +1,10 @@
 -- `land_deforestation::find_faults` meets its contract: for each fault, what is found so far, or among the parcels left, is found in the whole.
-use Prim.Native.Nat.{ℕ, _-_, _<_, _≤_}
-use mathlib.Core.Bool.{Bool, _||_}
-use mathlib.Core.Path.{_≡_, refl, ap}
-use mathlib.Core.List.{List}
-use native.Mathlib.Omega.{arith}
-use borrow.Author.Needs.{needs}
-use lib.ListN.{length, take, drop}
-use Rattle.laws.specs.Elements.{some}
+use Rattle.laws.proofs.{ℕ, _-_, _<_, _≤_, Bool, _||_, _≡_, refl, ap, List, arith, needs, length, take, drop}
+use Rattle.laws.specs.{some}
 use Rattle.laws.proofs.Standing.{as-long}
 use Rattle.laws.proofs.Turns.{some-end, some-out, some-more}
-use Rattle.land_parcels.specs.declared.Faults.{Faults}
-use Rattle.land_parcels.specs.declared.Parcel.{Parcel}
-use Rattle.land_parcels.specs.Parcels.{faultsOf}
-use Rattle.land_deforestation.specs.Emissions.{faultsAmong}
-use Rattle.land_deforestation.proofs.find_faults.Statement.{statement}
+use Rattle.land_parcels.specs.{Faults, Parcel, faultsOf}
+use Rattle.land_deforestation.specs.{faultsAmong}
 use Rattle.land_deforestation.proofs.find_faults.Tie as tie
 
 abbrev Found : (Faults → Bool) → List Parcel → ℕ → ℕ → Bool → Type 0
@@ -80,18 +71,6 @@ returns-2 c =
     let young = some-out (λ p. faultsOf p .young) l n i (b .loop .young) _ (v .4) out in
     λ j. record { bare = bare j; hectares = hectares j; years = years j; order = order j; young = young j }
 
-pub find-faults-spec : {M : Type 1} → statement M
-find-faults-spec =
-    tie.close
-    (tie.spec
-    Inv-loop
-    μ-loop
-    loop-holds
-    returns
-    (λ c. search needs)
-    (λ c. search needs)
-    (λ c κs. search needs)
-    (λ c. search needs)
-    (λ c. search needs)
-    loop-again
-    returns-2)
+pub find-faults-spec : {M : Type 1} → Rattle.land_deforestation.proofs.find_faults.Statement.statement M
+find-faults-spec = tie.close (tie.spec Inv-loop μ-loop loop-holds returns (λ c. search needs) (λ c. search needs) (λ c κs. search needs)
+    (λ c. search needs) (λ c. search needs) loop-again returns-2)

@@ -1,14 +1,9 @@
 -- `land_deforestation::total` meets its contract: the sum so far and that of the parcels left make the whole.
-use Prim.Native.Nat.{_+_, _*_, _-_, _≤_}
-use mathlib.Core.Path.{_≡_}
-use native.Mathlib.Omega.{arith}
-use borrow.Author.Needs.{needs}
-use lib.ListN.{length, take, drop}
-use Rattle.laws.specs.Elements.{sumBy}
+use Rattle.laws.proofs.{_+_, _*_, _-_, _≤_, _≡_, arith, needs, length, take, drop}
+use Rattle.laws.specs.{sumBy}
 use Rattle.laws.proofs.Standing.{as-long}
 use Rattle.laws.proofs.Turns.{sum-end, sum-out, sum-more}
-use Rattle.land_deforestation.specs.Emissions.{kilogramsOf}
-use Rattle.land_deforestation.proofs.total.Statement.{statement}
+use Rattle.land_deforestation.specs.{kilogramsOf}
 use Rattle.land_deforestation.proofs.total.Tie as tie
 
 abbrev Inv-loop : tie.InvT-loop
@@ -42,19 +37,6 @@ returns-2 c =
     let s = b .before .before in
     sum-out (kilogramsOf _) (s .args .t2) (s .args .count) (b .loop .i) _ _ (b .loop .inv .0) (omega (arith, long s))
 
-pub total-spec : {M : Type 1} → statement M
-total-spec =
-    tie.close
-    (tie.spec
-    Inv-loop
-    μ-loop
-    loop-holds
-    returns
-    (λ c. search needs)
-    (λ c. search needs)
-    (λ c κs. search needs)
-    add-sum
-    (λ c. search needs)
-    (λ c. search needs)
-    loop-again
-    returns-2)
+pub total-spec : {M : Type 1} → Rattle.land_deforestation.proofs.total.Statement.statement M
+total-spec = tie.close (tie.spec Inv-loop μ-loop loop-holds returns (λ c. search needs) (λ c. search needs) (λ c κs. search needs) add-sum
+    (λ c. search needs) (λ c. search needs) loop-again returns-2)

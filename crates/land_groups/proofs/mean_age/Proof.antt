@@ -1,11 +1,8 @@
 -- `land_groups::mean_age` meets its contract: the quotient of the weights, and one more from a rest of one half on.
-use mathlib.Core.Path.{_∙_}
-use native.Mathlib.Omega.{arith}
+use Rattle.laws.proofs.{_∙_, arith, needs}
 use native.Mathlib.Nat.{div-zero, div-le-self, mod-le}
-use borrow.Author.Needs.{needs}
-use Rattle.land_groups.specs.Sums.{halfUp, meanAge}
+use Rattle.land_groups.specs.{halfUp, meanAge}
 use Rattle.land_groups.proofs.HalfUp.{rounds-down, rounds-up}
-use Rattle.land_groups.proofs.mean_age.Statement.{statement}
 use Rattle.land_groups.proofs.mean_age.Tie as tie
 
 type-weights-requires : tie.Need-type-weights-requires
@@ -38,16 +35,5 @@ returns-3 : tie.Need-returns-3
 unfolding meanAge
 returns-3 c = rounds-up _ _ (omega arith) (c .if2 .left) ∙ simp (← (c .before .before .type-weights .ensures .0))
 
-pub mean-age-spec : {M : Type 1} → statement M
-mean-age-spec =
-    tie.close
-    (tie.spec
-    type-weights-requires
-    returns
-    rem-if2
-    mul-if2
-    div-result
-    returns-2
-    div-result-2
-    add-result
-    returns-3)
+pub mean-age-spec : {M : Type 1} → Rattle.land_groups.proofs.mean_age.Statement.statement M
+mean-age-spec = tie.close (tie.spec type-weights-requires returns rem-if2 mul-if2 div-result returns-2 div-result-2 add-result returns-3)

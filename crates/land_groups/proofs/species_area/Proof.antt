@@ -1,13 +1,8 @@
 -- `land_groups::species_area` meets its contract: the sum so far and that of the groups left make the species' total.
-use Prim.Native.Nat.{_+_, _*_, _-_, _≤_}
-use mathlib.Core.Path.{_≡_}
-use native.Mathlib.Omega.{arith}
-use borrow.Author.Needs.{needs}
-use lib.ListN.{length, take, drop}
+use Rattle.laws.proofs.{_+_, _*_, _-_, _≤_, _≡_, arith, needs, length, take, drop}
 use Rattle.laws.proofs.Standing.{as-long}
 use Rattle.laws.proofs.Turns.{sum-end, sum-out, sum-more}
-use Rattle.land_groups.specs.Sums.{ofSpecies, area, sumOver, speciesArea}
-use Rattle.land_groups.proofs.species_area.Statement.{statement}
+use Rattle.land_groups.specs.{ofSpecies, area, sumOver, speciesArea}
 use Rattle.land_groups.proofs.species_area.Tie as tie
 
 abbrev Inv-loop : tie.InvT-loop
@@ -57,19 +52,6 @@ returns-2 c =
     let a = b .before .args in
     sum-out _ (a .t1) (a .count) (b .loop .i) _ _ (b .loop .inv .0) (omega (arith, long (b .before)))
 
-pub species-area-spec : {M : Type 1} → statement M
-species-area-spec =
-    tie.close
-    (tie.spec
-    Inv-loop
-    μ-loop
-    loop-holds
-    returns
-    mul-g
-    array-copy-out-g
-    area-if-requires
-    add-sum
-    add-i
-    loop-less
-    loop-again
+pub species-area-spec : {M : Type 1} → Rattle.land_groups.proofs.species_area.Statement.statement M
+species-area-spec = tie.close (tie.spec Inv-loop μ-loop loop-holds returns mul-g array-copy-out-g area-if-requires add-sum add-i loop-less loop-again
     returns-2)

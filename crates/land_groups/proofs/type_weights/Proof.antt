@@ -1,14 +1,8 @@
 -- `land_groups::type_weights` meets its contract: both sums so far and those of the groups left make the type's.
-use Prim.Native.Nat.{ℕ, _+_, _*_, _-_, _≤_}
-use mathlib.Core.Bool.{Bool, cond}
-use mathlib.Core.Path.{_≡_, ap, _∙_}
-use native.Mathlib.Omega.{arith}
-use borrow.Author.Needs.{needs}
-use lib.ListN.{length, take, drop}
+use Rattle.laws.proofs.{ℕ, _+_, _*_, _-_, _≤_, Bool, cond, _≡_, ap, _∙_, arith, needs, length, take, drop}
 use Rattle.laws.proofs.Standing.{as-long}
 use Rattle.laws.proofs.Turns.{sum-end, sum-out, sum-more}
-use Rattle.land_groups.specs.Sums.{ofType, area, weightedAge, sumOver, weightsOf}
-use Rattle.land_groups.proofs.type_weights.Statement.{statement}
+use Rattle.land_groups.specs.{ofType, area, weightedAge, sumOver, weightsOf}
 use Rattle.land_groups.proofs.type_weights.Tie as tie
 
 abbrev Inv-loop : tie.InvT-loop
@@ -88,22 +82,6 @@ returns-2 c =
     let f = sum-out _ (a .t1) (a .count) (b .loop .i) _ _ (v .1) out in
     ((λ i. record { area = e i; age = f i }), omega arith, omega arith)
 
-pub type-weights-spec : {M : Type 1} → statement M
-type-weights-spec =
-    tie.close
-    (tie.spec
-    Inv-loop
-    μ-loop
-    loop-holds
-    returns
-    mul-g
-    array-copy-out-g
-    same-requires
-    area-if-requires
-    add-area
-    weighted-if-requires
-    add-age
-    add-i
-    loop-less
-    loop-again
-    returns-2)
+pub type-weights-spec : {M : Type 1} → Rattle.land_groups.proofs.type_weights.Statement.statement M
+type-weights-spec = tie.close (tie.spec Inv-loop μ-loop loop-holds returns mul-g array-copy-out-g same-requires area-if-requires add-area
+    weighted-if-requires add-age add-i loop-less loop-again returns-2)

@@ -1,16 +1,10 @@
 -- `land_parcels::find_amiss` meets its contract: for each fault, what is found so far, or among the clearings left, is found in the whole.
-use Prim.Native.Nat.{_-_, _<_, _≤_}
-use mathlib.Core.Bool.{_||_}
-use mathlib.Core.Path.{_≡_, refl}
-use native.Mathlib.Omega.{arith}
-use borrow.Author.Needs.{needs}
-use lib.ListN.{length, take, drop}
-use Rattle.laws.specs.Elements.{some}
+use Rattle.laws.proofs.{_-_, _<_, _≤_, _||_, _≡_, refl, arith, needs, length, take, drop}
+use Rattle.laws.specs.{some}
 use Rattle.laws.proofs.Standing.{as-long}
 use Rattle.laws.proofs.Turns.{some-end, some-out, some-more}
-use Rattle.land_parcels.specs.Parcels.{clearsBare, outOfYears, misordered}
+use Rattle.land_parcels.specs.{clearsBare, outOfYears, misordered}
 use Rattle.land_parcels.proofs.Found.{all-found}
-use Rattle.land_parcels.proofs.find_amiss.Statement.{statement}
 use Rattle.land_parcels.proofs.find_amiss.Tie as tie
 
 abbrev Inv-loop : tie.InvT-loop
@@ -64,23 +58,7 @@ returns-2 c =
     (some-out outOfYears l n i (b .loop .years) _ (v .1) out)
     (some-out (misordered (s .args .own .cleared)) l n i (b .loop .order) _ (v .2) out)
 
-pub find-amiss-spec : {M : Type 1} → statement M
-find-amiss-spec =
-    tie.close
-    (tie.spec
-    Inv-loop
-    μ-loop
-    (λ c κs. search needs)
-    (λ c κs. search needs)
-    (λ c κs. search needs)
-    (λ c. (refl, refl, refl))
-    returns
-    (λ c. search needs)
-    (λ c. search needs)
-    (λ c κs. search needs)
-    (λ c κs. search needs)
-    (λ c κs. search needs)
-    (λ c. search needs)
-    (λ c. search needs)
-    loop-again
-    returns-2)
+pub find-amiss-spec : {M : Type 1} → Rattle.land_parcels.proofs.find_amiss.Statement.statement M
+find-amiss-spec = tie.close (tie.spec Inv-loop μ-loop (λ c κs. search needs) (λ c κs. search needs) (λ c κs. search needs) (λ c. (refl, refl, refl))
+    returns (λ c. search needs) (λ c. search needs) (λ c κs. search needs) (λ c κs. search needs) (λ c κs. search needs) (λ c. search needs)
+    (λ c. search needs) loop-again returns-2)

@@ -1,15 +1,10 @@
 -- `land_predominance::predominant` meets its contract: setting the groups left against the leader gives the predominant one.
-use Prim.Native.Nat.{_-_}
-use mathlib.Core.Path.{_≡_}
+use Rattle.laws.proofs.{_-_, _≡_, arith, needs, length, take, drop}
 use mathlib.Core.List.{foldl}
-use native.Mathlib.Omega.{arith}
-use borrow.Author.Needs.{needs}
-use lib.ListN.{length, take, drop}
 use Rattle.laws.proofs.Standing.{as-long}
 use Rattle.laws.proofs.Turns.{fold-end, fold-out, fold-more}
-use Rattle.land_predominance.specs.Predominance.{leading, predominantOf}
+use Rattle.land_predominance.specs.{leading, predominantOf}
 use Rattle.land_predominance.proofs.Leading.{lead-first}
-use Rattle.land_predominance.proofs.predominant.Statement.{statement}
 use Rattle.land_predominance.proofs.predominant.Tie as tie
 
 abbrev Inv-loop : tie.InvT-loop
@@ -62,20 +57,6 @@ returns-3 c =
     let s = b .before .before .before in
     fold-out (leading (take (s .args .count) (s .args .t1))) (s .args .t1) (s .args .count) (b .loop .i) _ _ (b .loop .inv) (omega (arith, long s))
 
-pub predominant-spec : {M : Type 1} → statement M
-predominant-spec =
-    tie.close
-    (tie.spec
-    Inv-loop
-    μ-loop
-    returns
-    array-copy-out-leader
-    loop-holds
-    returns-2
-    mul-g
-    array-copy-out-g
-    lead-requires
-    add-i
-    loop-less
-    loop-again
-    returns-3)
+pub predominant-spec : {M : Type 1} → Rattle.land_predominance.proofs.predominant.Statement.statement M
+predominant-spec = tie.close (tie.spec Inv-loop μ-loop returns array-copy-out-leader loop-holds returns-2 mul-g array-copy-out-g lead-requires add-i
+    loop-less loop-again returns-3)

@@ -1,17 +1,10 @@
 -- `land_trees::find_faults` meets its contract: for each fault, what is found so far, or among the groups left, is found in the whole.
-use Prim.Native.Nat.{_-_, _<_, _≤_}
-use mathlib.Core.Bool.{Bool, _||_}
-use mathlib.Core.Path.{_≡_, refl}
-use mathlib.Core.List.{List}
-use native.Mathlib.Omega.{arith}
-use borrow.Author.Needs.{needs}
-use lib.ListN.{length, take, drop}
-use Rattle.laws.specs.Elements.{some}
+use Rattle.laws.proofs.{_-_, _<_, _≤_, Bool, _||_, _≡_, refl, List, arith, needs, length, take, drop}
+use Rattle.laws.specs.{some}
 use Rattle.laws.proofs.Standing.{as-long}
 use Rattle.laws.proofs.Turns.{some-end, some-out, some-more}
-use Rattle.land_groups.specs.declared.Group.{Group}
-use Rattle.land_trees.specs.Hectares.{outOfRange, otherType, faultsOf}
-use Rattle.land_trees.proofs.find_faults.Statement.{statement}
+use Rattle.land_groups.specs.{Group}
+use Rattle.land_trees.specs.{outOfRange, otherType, faultsOf}
 use Rattle.land_trees.proofs.find_faults.Tie as tie
 
 underTwo : List Group → Group → Bool
@@ -63,19 +56,6 @@ returns-2 c =
     let g = some-out (underTwo (take (a .count) (a .t1))) (a .t1) (a .count) i _ _ (v .1) out in
     λ i. record { «out_of_range» = f i; «two_types» = g i }
 
-pub find-faults-spec : {M : Type 1} → statement M
-find-faults-spec =
-    tie.close
-    (tie.spec
-    Inv-loop
-    μ-loop
-    loop-holds
-    returns
-    (λ c. search needs)
-    (λ c. search needs)
-    (λ c κs. search needs)
-    (λ c κs. search needs)
-    (λ c. search needs)
-    (λ c. search needs)
-    loop-again
-    returns-2)
+pub find-faults-spec : {M : Type 1} → Rattle.land_trees.proofs.find_faults.Statement.statement M
+find-faults-spec = tie.close (tie.spec Inv-loop μ-loop loop-holds returns (λ c. search needs) (λ c. search needs) (λ c κs. search needs)
+    (λ c κs. search needs) (λ c. search needs) (λ c. search needs) loop-again returns-2)

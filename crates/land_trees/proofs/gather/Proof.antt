@@ -1,12 +1,7 @@
 -- `land_trees::gather` meets its contract: a place past the last is not stored to, and a store there would change nothing.
-use mathlib.Core.Path.{_≡_}
-use native.Mathlib.Omega.{arith}
-use borrow.Author.Needs.{needs}
-use lib.ListN.{length}
-use lib.Seq.{set-out}
+use Rattle.laws.proofs.{_≡_, arith, needs, length, set-out}
 use Rattle.laws.proofs.Standing.{as-long}
-use Rattle.land_trees.specs.Gathering.{gathering}
-use Rattle.land_trees.proofs.gather.Statement.{statement}
+use Rattle.land_trees.specs.{gathering}
 use Rattle.land_trees.proofs.gather.Tie as tie
 
 returns : tie.Need-returns
@@ -20,5 +15,5 @@ returns-2 c =
     let long : length (a .found .groups) ≡ 64 = search (needs, as-long) in
     simp (c .before .before .same .ensures, set-out (a .found .groups) (a .at) (a .g) (omega arith))
 
-pub gather-spec : {M : Type 1} → statement M
+pub gather-spec : {M : Type 1} → Rattle.land_trees.proofs.gather.Statement.statement M
 gather-spec = tie.close (tie.spec (λ c κs. search needs) (λ c. search needs) (λ c. search needs) returns returns-2)

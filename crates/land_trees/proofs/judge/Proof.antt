@@ -1,8 +1,7 @@
 -- `land_trees::judge` meets its contract: the cases are weighed in their order.
-use borrow.Author.Needs.{needs}
-use Rattle.refusals.specs.Refusals.{weighAll, smallest}
-use Rattle.land_trees.specs.Hectares.{cases}
-use Rattle.land_trees.proofs.judge.Statement.{statement}
+use Rattle.laws.proofs.{needs}
+use Rattle.refusals.specs.{weighAll, smallest}
+use Rattle.land_trees.specs.{cases}
 use Rattle.land_trees.proofs.judge.Tie as tie
 
 returns : tie.Need-returns
@@ -16,7 +15,7 @@ returns c =
       c .before .before .before .before .find-faults .ensures,
     )
 
-pub judge-spec : {M : Type 1} → statement M
+pub judge-spec : {M : Type 1} → Rattle.land_trees.proofs.judge.Statement.statement M
 judge-spec =
     tie.close
     (tie.spec (λ c κs. search needs) (λ c κs. search needs) (λ c κs. search needs) (λ c κs. search needs) (λ c κs. search needs) returns)

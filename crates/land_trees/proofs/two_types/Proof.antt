@@ -1,15 +1,9 @@
 -- `land_trees::two_types` meets its contract: what is found so far, or among the groups left, is found in the whole.
-use Prim.Native.Nat.{_-_}
-use mathlib.Core.Bool.{_||_}
-use mathlib.Core.Path.{_≡_, refl}
-use native.Mathlib.Omega.{arith}
-use borrow.Author.Needs.{needs}
-use lib.ListN.{length, take, drop}
-use Rattle.laws.specs.Elements.{some}
+use Rattle.laws.proofs.{_-_, _||_, _≡_, refl, arith, needs, length, take, drop}
+use Rattle.laws.specs.{some}
 use Rattle.laws.proofs.Standing.{as-long}
 use Rattle.laws.proofs.Turns.{some-end, some-out, some-more}
-use Rattle.land_trees.specs.Hectares.{otherType}
-use Rattle.land_trees.proofs.two_types.Statement.{statement}
+use Rattle.land_trees.specs.{otherType}
 use Rattle.land_trees.proofs.two_types.Tie as tie
 
 abbrev Inv-loop : tie.InvT-loop
@@ -36,18 +30,6 @@ returns-2 c =
     let a = b .before .args in
     some-out (otherType (a .g)) (a .t1) (a .count) (b .loop .i) _ _ (b .loop .inv) (omega (arith, long (b .before)))
 
-pub two-types-spec : {M : Type 1} → statement M
-two-types-spec =
-    tie.close
-    (tie.spec
-    Inv-loop
-    μ-loop
-    (λ c. refl)
-    returns
-    (λ c. search needs)
-    (λ c. search needs)
-    (λ c κs. search needs)
-    (λ c. search needs)
-    (λ c. search needs)
-    loop-again
-    returns-2)
+pub two-types-spec : {M : Type 1} → Rattle.land_trees.proofs.two_types.Statement.statement M
+two-types-spec = tie.close (tie.spec Inv-loop μ-loop (λ c. refl) returns (λ c. search needs) (λ c. search needs) (λ c κs. search needs)
+    (λ c. search needs) (λ c. search needs) loop-again returns-2)

@@ -1,12 +1,8 @@
 -- `land_trees::type_and_age` meets its contract, by the verdict: a clear one leaves an age of at most 300.
-use mathlib.Core.Path.{sym, ap, _∙_}
-use native.Mathlib.Omega.{arith}
-use borrow.Author.Needs.{needs}
-use lib.ListN.{take}
-use Rattle.refusals.specs.declared.Verdict.{Verdict}
-use Rattle.land_trees.specs.Hectares.{answerOf, heldOf}
+use Rattle.laws.proofs.{sym, ap, _∙_, arith, needs, take}
+use Rattle.refusals.specs.{Verdict}
+use Rattle.land_trees.specs.{answerOf, heldOf}
 use Rattle.land_trees.proofs.Determined.{age-at-most, when-clear}
-use Rattle.land_trees.proofs.type_and_age.Statement.{statement}
 use Rattle.land_trees.proofs.type_and_age.Tie as tie
 
 returns : tie.Need-returns
@@ -26,15 +22,6 @@ returns-2 c =
     let j = c .before .before .before .before .before in
     when-clear _ _ _ _ (j .judge .ensures) _ _ (c .before .before .before .enum-told .given .1) (c .before .predominant .ensures) (c .mean-age .ensures)
 
-pub type-and-age-spec : {M : Type 1} → statement M
-type-and-age-spec =
-    tie.close
-    (tie.spec
-    (λ c κs. search needs)
-    (λ c. search needs)
-    returns
-    (λ c. search needs)
-    (λ c κs. search needs)
-    (λ c κs. search needs)
-    cast-age
-    returns-2)
+pub type-and-age-spec : {M : Type 1} → Rattle.land_trees.proofs.type_and_age.Statement.statement M
+type-and-age-spec = tie.close (tie.spec (λ c κs. search needs) (λ c. search needs) returns (λ c. search needs) (λ c κs. search needs)
+    (λ c κs. search needs) cast-age returns-2)

@@ -1,11 +1,7 @@
 -- `line::read_cells` meets its contract, by those of its calls.
-use Prim.Native.Nat.{ℕ}
-use mathlib.Core.Path.{ap, _∙_}
-use mathlib.Core.List.{List}
-use borrow.Author.Needs.{needs}
-use Rattle.text.specs.Fields.{split}
-use Rattle.line_column.specs.Columns.{roomFor, filled}
-use Rattle.line.proofs.read_cells.Statement.{statement}
+use Rattle.laws.proofs.{ℕ, ap, _∙_, List, needs}
+use Rattle.text.specs.{split}
+use Rattle.line_column.specs.{roomFor, filled}
 use Rattle.line.proofs.read_cells.Tie as tie
 
 returns : tie.Need-returns
@@ -15,5 +11,5 @@ returns c =
     let read = c .before .before .read-cells .ensures in
     (read .0 ∙ ap (λ (s : List ℕ). roomFor (split s) out) inner, read .1 ∙ ap (λ (s : List ℕ). filled (split s) out) inner)
 
-pub read-cells-spec : {M : Type 1} → statement M
+pub read-cells-spec : {M : Type 1} → Rattle.line.proofs.read_cells.Statement.statement M
 read-cells-spec = tie.close (tie.spec (λ c κs. tt) (λ c κs. tt) (λ c. search needs) returns)

@@ -1,11 +1,10 @@
 -- `line_area::area_and_year` meets its contract: the verdict, case by case, is that of the table.
-use lib.Dec.{lit<}
+use Rattle.laws.proofs.{lit<}
 use Rattle.text_field.proofs.Laws.{count-found}
-use Rattle.refusals.specs.Refusals.{weighAll, smallest}
-use Rattle.line_entry.specs.Rules.{areaAndYear}
+use Rattle.refusals.specs.{weighAll, smallest}
+use Rattle.line_entry.specs.{areaAndYear}
 use Rattle.line_entry.proofs.Laws.{number-found}
-use Rattle.line_area.specs.Read.{areaYear}
-use Rattle.line_area.proofs.area_and_year.Statement.{statement}
+use Rattle.line_area.specs.{areaYear}
 use Rattle.line_area.proofs.area_and_year.Tie as tie
 
 returns : tie.Need-returns
@@ -27,18 +26,6 @@ returns c =
       number-found _ _ 2 _ scanned (lit< tt) (r .number-at2 .ensures),
     )
 
-pub area-and-year-spec : {M : Type 1} → statement M
-area-and-year-spec =
-    tie.close
-    (tie.spec
-    (λ c κs. tt)
-    (λ c κs. tt)
-    (λ c κs. tt)
-    (λ c κs. tt)
-    (λ c κs. tt)
-    (λ c κs. tt)
-    (λ c κs. tt)
-    (λ c κs. tt)
-    (λ c κs. tt)
-    (λ c κs. tt)
-    returns)
+pub area-and-year-spec : {M : Type 1} → Rattle.line_area.proofs.area_and_year.Statement.statement M
+area-and-year-spec = tie.close (tie.spec (λ c κs. tt) (λ c κs. tt) (λ c κs. tt) (λ c κs. tt) (λ c κs. tt) (λ c κs. tt) (λ c κs. tt) (λ c κs. tt)
+    (λ c κs. tt) (λ c κs. tt) returns)

@@ -1,14 +1,11 @@
 -- `line_area::withdraw_entry` meets its contract: the verdict, case by case, is the rule's, and a clear one bounds the number.
-use mathlib.Core.Path.{_≡_, sym, _∙_}
-use borrow.Author.Needs.{needs}
-use lib.Dec.{lit<, lit≤}
-use Rattle.text.specs.Fields.{split}
+use Rattle.laws.proofs.{_≡_, sym, _∙_, needs, lit<, lit≤}
+use Rattle.text.specs.{split}
 use Rattle.text_field.proofs.Laws.{count-found}
-use Rattle.refusals.specs.Refusals.{weighAll, smallest}
-use Rattle.refusals.proofs.Laws.{NoneApplies, none-applies}
-use Rattle.line_entry.specs.Rules.{withdrawRule}
+use Rattle.refusals.specs.{weighAll, smallest}
+use Rattle.refusals.proofs.Laws.{ruled-out}
+use Rattle.line_entry.specs.{withdrawRule}
 use Rattle.line_entry.proofs.Laws.{turned, taken, number-found, value-found}
-use Rattle.line_area.proofs.withdraw_entry.Statement.{statement}
 use Rattle.line_area.proofs.withdraw_entry.Tie as tie
 
 verdict : (w : tie.After-weigh-area) → w .weigh-area .result ≡ smallest (withdrawRule (split (w .before .before .before .before .before .before .args .line .now)) .cases)
@@ -29,26 +26,15 @@ unfolding withdrawRule
 returns c = turned _ _ _ _ (verdict (c .before .before .before)) (c .before .v .given .1)
 
 returns-2 : tie.Need-returns-2
-unfolding withdrawRule NoneApplies
+unfolding withdrawRule
 returns-2 c =
     let w = c .before .before .before in
     let r = w .before .before .before in
     let clear = c .before .enum-told .given .1 in
-    let none = none-applies _ (sym (verdict w) ∙ clear) in
-    let area = value-found 1 999 65535 _ _ _ (c .value-u16 .ensures) (number-found _ _ 1 _ (r .before .scan .ensures) (lit< tt) (r .number-at .ensures)) (lit≤ tt) (none .1 .1 .0) in
+    let none = ruled-out _ (sym (verdict w) ∙ clear) in
+    let area = value-found 1 999 65535 _ _ _ (c .value-u16 .ensures) (number-found _ _ 1 _ (r .before .scan .ensures) (lit< tt) (r .number-at .ensures)) (lit≤ tt) (none 2) in
     taken _ _ _ _ (verdict w) clear (simp area)
 
-pub withdraw-entry-spec : {M : Type 1} → statement M
-withdraw-entry-spec =
-    tie.close
-    (tie.spec
-    (λ c κs. tt)
-    (λ c κs. tt)
-    (λ c κs. tt)
-    (λ c κs. tt)
-    (λ c κs. tt)
-    (λ c. search needs)
-    (λ c. search needs)
-    (λ c κs. tt)
-    returns
-    returns-2)
+pub withdraw-entry-spec : {M : Type 1} → Rattle.line_area.proofs.withdraw_entry.Statement.statement M
+withdraw-entry-spec = tie.close (tie.spec (λ c κs. tt) (λ c κs. tt) (λ c κs. tt) (λ c κs. tt) (λ c κs. tt) (λ c. search needs) (λ c. search needs)
+    (λ c κs. tt) returns returns-2)

@@ -1,14 +1,9 @@
 -- `line_column::all_cells` meets its contract: the fields from the fourth one's start on are the cells, where there is a fourth.
-use mathlib.Core.Path.{ap, _∙_}
-use native.Mathlib.Omega.{arith}
-use borrow.Author.Needs.{needs}
-use lib.Dec.{lit<}
-use lib.Seq.{sets}
-use Rattle.text.specs.Fields.{split}
+use Rattle.laws.proofs.{ap, _∙_, arith, needs, lit<, sets}
+use Rattle.text.specs.{split}
 use Rattle.text_field.proofs.Laws.{count-found, start-found}
-use Rattle.line_column.specs.Columns.{tenthsAll, cellsFound}
+use Rattle.line_column.specs.{tenthsAll, cellsFound}
 use Rattle.line_column.proofs.Laws.{none-found, none-kept}
-use Rattle.line_column.proofs.all_cells.Statement.{statement}
 use Rattle.line_column.proofs.all_cells.Tie as tie
 
 returns : tie.Need-returns
@@ -30,5 +25,5 @@ returns-2 c =
     let rest = start-found (start .args .line .now) (start .args .places) (start .pre) 3 (lit< tt) (omega arith) .1 in
     (c .before .before .scan-cells .ensures .0 ∙ ap cellsFound rest, c .before .before .scan-cells .ensures .1 ∙ ap (λ fs. sets (start .args .cells .now) 0 (tenthsAll fs)) rest)
 
-pub all-cells-spec : {M : Type 1} → statement M
+pub all-cells-spec : {M : Type 1} → Rattle.line_column.proofs.all_cells.Statement.statement M
 all-cells-spec = tie.close (tie.spec returns (λ c. search needs) scan-cells-requires (λ c. search needs) returns-2)

@@ -1,15 +1,11 @@
 -- `line_column::column_entry` meets its contract: the verdict, case by case, is the rule's, and the column's place is small.
-use mathlib.Core.Path.{_≡_, ap, _∙_}
-use native.Mathlib.Omega.{arith}
-use borrow.Author.Needs.{needs}
-use lib.Dec.{lit<}
-use Rattle.text.specs.Fields.{split}
+use Rattle.laws.proofs.{_≡_, ap, _∙_, arith, needs, lit<}
+use Rattle.text.specs.{split}
 use Rattle.text_field.proofs.Laws.{count-found}
-use Rattle.refusals.specs.Refusals.{weighAll, smallest}
+use Rattle.refusals.specs.{weighAll, smallest}
 use Rattle.line_entry.proofs.Laws.{turned, taken, found}
-use Rattle.line_column.specs.Columns.{kindOf, typeOf, cellsFound, columnRule}
+use Rattle.line_column.specs.{kindOf, typeOf, cellsFound, columnRule}
 use Rattle.line_column.proofs.Laws.{counted, kind-le, type-le}
-use Rattle.line_column.proofs.column_entry.Statement.{statement}
 use Rattle.line_column.proofs.column_entry.Tie as tie
 
 verdict : (w : tie.After-weigh6) → w .weigh6 .result ≡ smallest (columnRule (split (w .before .before .before .before .before .before .before .before .before .before .before .before .before .before .before .before .before .before .args .line .now)) .cases)
@@ -56,33 +52,9 @@ returns-2 c =
       c .before .place-of .ensures,
       found typeOf _ _ 2 _ scanned (lit< tt) (r .before .before .type-of .ensures ∙ ap typeOf (r .before .before .before .field2 .ensures)),
       found kindOf _ _ 1 _ scanned (lit< tt) (r .before .before .before .before .kind-of .ensures ∙ ap kindOf (r .before .before .before .before .before .field .ensures)),
-      counted _ _ _ scanned (r .before .before .before .before .before .before .cell-count .ensures),
     ))
 
-pub column-entry-spec : {M : Type 1} → statement M
-column-entry-spec =
-    tie.close
-    (tie.spec
-    (λ c κs. tt)
-    (λ c κs. tt)
-    (λ c κs. tt)
-    (λ c κs. tt)
-    (λ c κs. tt)
-    (λ c κs. tt)
-    (λ c. search needs)
-    (λ c κs. c .before .before .before .before .before .before .scan .ensures)
-    (λ c κs. tt)
-    (λ c κs. tt)
-    (λ c κs. tt)
-    (λ c κs. tt)
-    (λ c κs. tt)
-    (λ c κs. tt)
-    (λ c κs. tt)
-    (λ c κs. tt)
-    (λ c. search needs)
-    (λ c. search needs)
-    (λ c κs. tt)
-    (λ c κs. tt)
-    add-t26
-    returns
-    returns-2)
+pub column-entry-spec : {M : Type 1} → Rattle.line_column.proofs.column_entry.Statement.statement M
+column-entry-spec = tie.close (tie.spec (λ c κs. tt) (λ c κs. tt) (λ c κs. tt) (λ c κs. tt) (λ c κs. tt) (λ c κs. tt) (λ c. search needs)
+    (λ c κs. c .before .before .before .before .before .before .scan .ensures) (λ c κs. tt) (λ c κs. tt) (λ c κs. tt) (λ c κs. tt) (λ c κs. tt)
+    (λ c κs. tt) (λ c κs. tt) (λ c κs. tt) (λ c. search needs) (λ c. search needs) (λ c κs. tt) (λ c κs. tt) add-t26 returns returns-2)

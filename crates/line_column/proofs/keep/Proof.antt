@@ -1,16 +1,7 @@
 -- `line_column::keep` meets its contract: past the end a store changes nothing.
-use mathlib.Core.Path.{sym}
-use borrow.Author.Needs.{needs}
-use lib.Seq.{set-out}
-use Rattle.line_column.proofs.keep.Statement.{statement}
+use Rattle.laws.proofs.{sym, needs, set-out}
 use Rattle.line_column.proofs.keep.Tie as tie
 
-pub keep-spec : {M : Type 1} → statement M
-keep-spec =
-    tie.close
-    (tie.spec
-    (λ c. search needs)
-    (λ c. search needs)
-    (λ c. search needs)
-    (λ c. search needs)
+pub keep-spec : {M : Type 1} → Rattle.line_column.proofs.keep.Statement.statement M
+keep-spec = tie.close (tie.spec (λ c. search needs) (λ c. search needs) (λ c. search needs) (λ c. search needs)
     (λ c. sym (set-out _ _ _ (c .if1 .left))))

@@ -1,16 +1,10 @@
 -- `line_column::scan_cells` meets its contract. The loop's invariant: what was judged and kept so far, with the cells from here on, is what all of them give.
-use Prim.Native.Nat.{_-_, _≤_}
-use mathlib.Core.Path.{_≡_, refl, _∙_}
-use mathlib.Core.Bool.{_||_}
-use native.Mathlib.Omega.{arith}
-use lib.ListN.{length, drop}
-use lib.Seq.{sets}
-use Rattle.text.specs.Fields.{split}
-use Rattle.text_value.specs.Ranges.{malformed}
+use Rattle.laws.proofs.{_-_, _≤_, _≡_, refl, _∙_, _||_, arith, length, drop, sets}
+use Rattle.text.specs.{split}
+use Rattle.text_value.specs.{malformed}
 use Rattle.text_field.proofs.Laws.{end-inside}
-use Rattle.line_column.specs.Columns.{someCell, badCell, tenthsAll, cellsFound}
+use Rattle.line_column.specs.{someCell, badCell, tenthsAll, cellsFound}
 use Rattle.line_column.proofs.Laws.{judge-next, judge-last, keep-next, keep-last}
-use Rattle.line_column.proofs.scan_cells.Statement.{statement}
 use Rattle.line_column.proofs.scan_cells.Tie as tie
 
 abbrev Inv-loop : tie.InvT-loop
@@ -58,25 +52,10 @@ returns c =
       keep-last _ _ _ e (l .inv .0) _ read _ _ _ _ (c .before .before .before .keep .ensures) (c .before .before .before .before .value-u16 .ensures) last (ends at .1) ∙ l .inv .5,
     )
 
-pub scan-cells-spec : {M : Type 1} → statement M
-scan-cells-spec =
-    tie.close
-    (tie.spec
-    Inv-loop
-    μ-loop
-    (λ c. (omega arith, omega arith, refl, refl, refl, refl))
-    (λ c κs. tt)
-    (λ c. ends c .0)
-    (λ c. ends c .0)
-    (λ c. ends c .1)
-    (λ c κs. tt)
-    (λ c κs. tt)
-    (λ c κs. tt)
-    (λ c κs. tt)
-    (λ c κs. tt)
-    (λ c. omega arith)
+pub scan-cells-spec : {M : Type 1} → Rattle.line_column.proofs.scan_cells.Statement.statement M
+scan-cells-spec = tie.close (tie.spec Inv-loop μ-loop (λ c. (omega arith, omega arith, refl, refl, refl, refl)) (λ c κs. tt) (λ c. ends c .0)
+    (λ c. ends c .0) (λ c. ends c .1) (λ c κs. tt) (λ c κs. tt) (λ c κs. tt) (λ c κs. tt) (λ c κs. tt) (λ c. omega arith)
     (λ c. omega (arith, ends (c .before .before .before .before .before .before .before .before .before .before)))
-    (λ c. omega (arith, ends (c .before .before .before .before .before .before .before .before .before .before)))
-    loop-again
+    (λ c. omega (arith, ends (c .before .before .before .before .before .before .before .before .before .before))) loop-again
     (λ c. c .before .before .before .keep .kept .0 ∙ c .before .before .before .before .before .before .before .before .before .before .before .loop .inv .2)
     returns)

@@ -1,15 +1,12 @@
 -- `line_stand::plant_entry` meets its contract: the verdict, case by case, is the rule's, and a clear one bounds the numbers.
-use mathlib.Core.Path.{_≡_, sym, ap, _∙_}
-use borrow.Author.Needs.{needs}
-use lib.Dec.{lit<, lit≤}
-use Rattle.forest.specs.Letters.{named}
-use Rattle.text.specs.Fields.{split}
+use Rattle.laws.proofs.{_≡_, sym, ap, _∙_, needs, lit<, lit≤}
+use Rattle.forest.specs.{named}
+use Rattle.text.specs.{split}
 use Rattle.text_field.proofs.Laws.{count-found}
-use Rattle.refusals.specs.Refusals.{weighAll, smallest}
-use Rattle.refusals.proofs.Laws.{NoneApplies, none-applies}
-use Rattle.line_entry.specs.Rules.{plantRule}
+use Rattle.refusals.specs.{weighAll, smallest}
+use Rattle.refusals.proofs.Laws.{ruled-out}
+use Rattle.line_entry.specs.{plantRule}
 use Rattle.line_entry.proofs.Laws.{turned, taken, found, number-found, value-found}
-use Rattle.line_stand.proofs.plant_entry.Statement.{statement}
 use Rattle.line_stand.proofs.plant_entry.Tie as tie
 
 verdict : (w : tie.After-weigh-year) → w .weigh-year .result ≡ smallest (plantRule (split (w .before .before .before .before .before .before .before .before .before .before .before .before .before .before .before .before .args .line .now)) .cases)
@@ -40,44 +37,20 @@ unfolding plantRule
 returns c = turned _ _ _ _ (verdict (c .before .before .before)) (c .before .v .given .1)
 
 returns-2 : tie.Need-returns-2
-unfolding plantRule NoneApplies
+unfolding plantRule
 returns-2 c =
     let w = c .before .before .before .before .before .before in
     let r = w .before .before .before .before .before .before .before .before .before in
     let scanned = r .before .before .before .before .before .scan .ensures in
     let clear = c .before .before .before .before .enum-told .given .1 in
-    let none = none-applies _ (sym (verdict w) ∙ clear) in
-    let ranges = none .1 .1 .1 .1 in
-    let area = value-found 1 999 65535 _ _ _ (c .before .before .before .value-u16 .ensures) (number-found _ _ 1 _ scanned (lit< tt) (r .before .before .before .before .number-at .ensures)) (lit≤ tt) (ranges .0) in
-    let sub = value-found 1 99 255 _ _ _ (c .before .before .value-u8 .ensures) (number-found _ _ 2 _ scanned (lit< tt) (r .before .before .before .number-at2 .ensures)) (lit≤ tt) (ranges .1 .0) in
+    let none = ruled-out _ (sym (verdict w) ∙ clear) in
+    let area = value-found 1 999 65535 _ _ _ (c .before .before .before .value-u16 .ensures) (number-found _ _ 1 _ scanned (lit< tt) (r .before .before .before .before .number-at .ensures)) (lit≤ tt) (none 4) in
+    let sub = value-found 1 99 255 _ _ _ (c .before .before .value-u8 .ensures) (number-found _ _ 2 _ scanned (lit< tt) (r .before .before .before .number-at2 .ensures)) (lit≤ tt) (none 5) in
     let type = found named _ _ 3 _ scanned (lit< tt) (r .before .read .ensures ∙ ap named (r .before .before .field .ensures)) in
-    let year = value-found 2008 2199 65535 _ _ _ (c .value-u162 .ensures) (number-found _ _ 4 _ scanned (lit< tt) (r .number-at3 .ensures)) (lit≤ tt) (ranges .1 .1 .1 .0) in
+    let year = value-found 2008 2199 65535 _ _ _ (c .value-u162 .ensures) (number-found _ _ 4 _ scanned (lit< tt) (r .number-at3 .ensures)) (lit≤ tt) (none 7) in
     taken _ _ _ _ (verdict w) clear (simp (area, sub, c .before .forest-of .ensures, type, year))
 
-pub plant-entry-spec : {M : Type 1} → statement M
-plant-entry-spec =
-    tie.close
-    (tie.spec
-    (λ c κs. tt)
-    (λ c κs. tt)
-    (λ c κs. tt)
-    (λ c κs. tt)
-    (λ c κs. tt)
-    (λ c κs. tt)
-    (λ c κs. tt)
-    (λ c κs. tt)
-    (λ c κs. tt)
-    (λ c κs. tt)
-    (λ c κs. tt)
-    (λ c κs. tt)
-    (λ c κs. tt)
-    (λ c κs. tt)
-    (λ c κs. tt)
-    (λ c. search needs)
-    (λ c. search needs)
-    (λ c κs. tt)
-    (λ c κs. tt)
-    (λ c κs. tt)
-    (λ c κs. tt)
-    returns
-    returns-2)
+pub plant-entry-spec : {M : Type 1} → Rattle.line_stand.proofs.plant_entry.Statement.statement M
+plant-entry-spec = tie.close (tie.spec (λ c κs. tt) (λ c κs. tt) (λ c κs. tt) (λ c κs. tt) (λ c κs. tt) (λ c κs. tt) (λ c κs. tt) (λ c κs. tt)
+    (λ c κs. tt) (λ c κs. tt) (λ c κs. tt) (λ c κs. tt) (λ c κs. tt) (λ c κs. tt) (λ c κs. tt) (λ c. search needs) (λ c. search needs) (λ c κs. tt)
+    (λ c κs. tt) (λ c κs. tt) (λ c κs. tt) returns returns-2)

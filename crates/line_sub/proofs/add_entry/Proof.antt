@@ -1,18 +1,14 @@
 -- `line_sub::add_entry` meets its contract: the verdict, case by case, is the rule's, and a clear one bounds the numbers.
-use mathlib.Core.Path.{_≡_, sym, ap, _∙_}
-use borrow.Author.Needs.{needs}
-use lib.Dec.{lit<, lit≤}
-use Rattle.units.specs.Units.{tenthsOf}
-use Rattle.forest.specs.Letters.{named}
-use Rattle.text_decimal.specs.Decimals.{hectaresIn}
-use Rattle.text.specs.Fields.{split}
+use Rattle.laws.proofs.{_≡_, sym, ap, _∙_, needs, lit<, lit≤}
+use Rattle.units.specs.{tenthsOf}
+use Rattle.forest.specs.{named}
+use Rattle.text_decimal.specs.{hectaresIn}
+use Rattle.text.specs.{split}
 use Rattle.text_field.proofs.Laws.{count-found}
-use Rattle.refusals.specs.Refusals.{weighAll, smallest}
-use Rattle.refusals.proofs.Laws.{NoneApplies, none-applies}
-use Rattle.line_entry.specs.Ranges.{typeAt}
-use Rattle.line_entry.specs.Rules.{addRule}
+use Rattle.refusals.specs.{weighAll, smallest}
+use Rattle.refusals.proofs.Laws.{ruled-out}
+use Rattle.line_entry.specs.{typeAt, addRule}
 use Rattle.line_entry.proofs.Laws.{turned, taken, found, number-found, value-found, planted-found}
-use Rattle.line_sub.proofs.add_entry.Statement.{statement}
 use Rattle.line_sub.proofs.add_entry.Tie as tie
 
 verdict : (w : tie.After-weigh4) → w .weigh4 .result ≡ smallest (addRule (split (w .before .before .before .before .before .before .before .before .before .before .before .before .before .before .before .before .before .before .before .before .before .before .args .line .now)) .cases)
@@ -49,56 +45,25 @@ unfolding addRule
 returns c = turned _ _ _ _ (verdict (c .before .before .before)) (c .before .v .given .1)
 
 returns-2 : tie.Need-returns-2
-unfolding addRule NoneApplies
+unfolding addRule
 returns-2 c =
     let told = c .before .before .before .before .before .before in
     let w = told .before .before in
     let r = w .before .before .before .before .before .before .before .before .before .before .before .before .before in
     let scanned = r .before .before .before .before .before .before .before .scan .ensures in
     let clear = told .enum-told .given .1 in
-    let none = none-applies _ (sym (verdict w) ∙ clear) in
-    let ranges = none .1 .1 .1 .1 .1 in
-    let area = value-found 1 999 65535 _ _ _ (c .before .before .before .before .before .value-u16 .ensures) (number-found _ _ 1 _ scanned (lit< tt) (r .before .before .before .before .before .before .number-at .ensures)) (lit≤ tt) (ranges .0) in
-    let sub = value-found 1 99 255 _ _ _ (c .before .before .before .before .value-u8 .ensures) (number-found _ _ 2 _ scanned (lit< tt) (r .before .before .before .before .before .number-at2 .ensures)) (lit≤ tt) (ranges .1 .0) in
+    let none = ruled-out _ (sym (verdict w) ∙ clear) in
+    let area = value-found 1 999 65535 _ _ _ (c .before .before .before .before .before .value-u16 .ensures) (number-found _ _ 1 _ scanned (lit< tt) (r .before .before .before .before .before .before .number-at .ensures)) (lit≤ tt) (none 5) in
+    let sub = value-found 1 99 255 _ _ _ (c .before .before .before .before .value-u8 .ensures) (number-found _ _ 2 _ scanned (lit< tt) (r .before .before .before .before .before .number-at2 .ensures)) (lit≤ tt) (none 6) in
     let hectares =
     value-found 10000 100000000 4294967295 _ _ _ (c .before .before .before .value-u32 .ensures)
-    (found hectaresIn _ _ 3 _ scanned (lit< tt) (r .before .before .before .hectares .ensures ∙ ap hectaresIn (r .before .before .before .before .field .ensures))) (lit≤ tt) (ranges .1 .1 .1 .0) in
+    (found hectaresIn _ _ 3 _ scanned (lit< tt) (r .before .before .before .hectares .ensures ∙ ap hectaresIn (r .before .before .before .before .field .ensures))) (lit≤ tt) (none 8) in
     let type = found named _ _ 4 _ scanned (lit< tt) (r .before .read .ensures ∙ ap named (r .before .before .field2 .ensures)) in
-    let planted = planted-found (typeAt (split (r .before .before .before .before .before .before .before .before .before .args .line .now)) 4) _ _ _ (c .value-u162 .ensures) (number-found _ _ 5 _ scanned (lit< tt) (r .number-at3 .ensures)) (ranges .1 .1 .1 .1 .0) in
+    let planted = planted-found (typeAt (split (r .before .before .before .before .before .before .before .before .before .args .line .now)) 4) _ _ _ (c .value-u162 .ensures) (number-found _ _ 5 _ scanned (lit< tt) (r .number-at3 .ensures)) (none 9) in
     taken _ _ _ _ (verdict w) clear (simp (area, sub, c .before .before .rounded .ensures ∙ ap tenthsOf hectares, c .before .forest-of .ensures, type, planted))
 
-pub add-entry-spec : {M : Type 1} → statement M
-add-entry-spec =
-    tie.close
-    (tie.spec
-    (λ c κs. tt)
-    (λ c κs. tt)
-    (λ c κs. tt)
-    (λ c κs. tt)
-    (λ c κs. tt)
-    (λ c κs. tt)
-    (λ c κs. tt)
-    (λ c κs. tt)
-    (λ c κs. tt)
-    (λ c κs. tt)
-    (λ c κs. tt)
-    (λ c κs. tt)
-    (λ c κs. tt)
-    (λ c κs. tt)
-    (λ c κs. tt)
-    (λ c κs. tt)
-    (λ c κs. tt)
-    (λ c κs. tt)
-    (λ c κs. tt)
-    (λ c κs. tt)
-    (λ c κs. tt)
-    (λ c. search needs)
-    (λ c. search needs)
-    (λ c κs. tt)
-    (λ c κs. tt)
-    (λ c κs. tt)
-    (λ c κs. tt)
-    (λ c κs. tt)
-    (λ c κs. tt)
-    returns
-    returns-2)
+pub add-entry-spec : {M : Type 1} → Rattle.line_sub.proofs.add_entry.Statement.statement M
+add-entry-spec = tie.close (tie.spec (λ c κs. tt) (λ c κs. tt) (λ c κs. tt) (λ c κs. tt) (λ c κs. tt) (λ c κs. tt) (λ c κs. tt) (λ c κs. tt)
+    (λ c κs. tt) (λ c κs. tt) (λ c κs. tt) (λ c κs. tt) (λ c κs. tt) (λ c κs. tt) (λ c κs. tt) (λ c κs. tt) (λ c κs. tt) (λ c κs. tt) (λ c κs. tt)
+    (λ c κs. tt) (λ c κs. tt) (λ c. search needs) (λ c. search needs) (λ c κs. tt) (λ c κs. tt) (λ c κs. tt) (λ c κs. tt) (λ c κs. tt) (λ c κs. tt)
+    returns returns-2)

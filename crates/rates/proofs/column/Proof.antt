@@ -1,12 +1,9 @@
 -- `rates::column` meets its contract, by the length of the participant's column.
-use mathlib.Core.Path.{sym, ap, _∙_}
-use lib.ListN.{take, drop}
-use Rattle.schedules.specs.declared.Place.{Place}
-use Rattle.schedules.specs.Columns.{Column}
-use Rattle.table_parts.specs.Parts.{lengthOf}
-use Rattle.table_lent.specs.Lent.{ownColumn}
+use Rattle.laws.proofs.{sym, ap, _∙_, take, drop}
+use Rattle.schedules.specs.{Place, Column}
+use Rattle.table_parts.specs.{lengthOf}
+use Rattle.table_lent.specs.{ownColumn}
 use Rattle.rates.proofs.LookUp.{defaults, participants}
-use Rattle.rates.proofs.column.Statement.{statement}
 use Rattle.rates.proofs.column.Tie as tie
 
 returns : tie.Need-returns
@@ -27,14 +24,5 @@ returns-2 c =
     ∙ ap (ownColumn own) (c .before .before .before .own-number .ensures)
     ∙ sym (ap (λ (k : Column). k .cells) (participants own (a .default .now) (a .kind) (a .forest) (λ e. c .before .if1 .left (c .before .before .column-length .ensures ∙ long ∙ e))))
 
-pub column-spec : {M : Type 1} → statement M
-column-spec =
-    tie.close
-    (tie.spec
-    (λ c κs. tt)
-    (λ c κs. tt)
-    (λ c κs. tt)
-    (λ c κs. tt)
-    returns
-    (λ c κs. tt)
-    returns-2)
+pub column-spec : {M : Type 1} → Rattle.rates.proofs.column.Statement.statement M
+column-spec = tie.close (tie.spec (λ c κs. tt) (λ c κs. tt) (λ c κs. tt) (λ c κs. tt) returns (λ c κs. tt) returns-2)

@@ -1,11 +1,8 @@
 -- `rates::first_age` meets its contract, by the length of the participant's column.
-use mathlib.Core.Path.{sym, ap, _∙_}
-use mathlib.Core.List.{[]}
-use Rattle.schedules.specs.declared.Place.{Place}
-use Rattle.schedules.specs.Columns.{Column}
-use Rattle.table_parts.specs.Parts.{lengthOf}
+use Rattle.laws.proofs.{sym, ap, _∙_, []}
+use Rattle.schedules.specs.{Place, Column}
+use Rattle.table_parts.specs.{lengthOf}
 use Rattle.rates.proofs.LookUp.{defaults, participants}
-use Rattle.rates.proofs.first_age.Statement.{statement}
 use Rattle.rates.proofs.first_age.Tie as tie
 
 returns : tie.Need-returns
@@ -22,12 +19,5 @@ returns-2 c =
     let long = ap (lengthOf own) (c .before .before .own-number .ensures) in
     sym (ap (λ (k : Column). k .first) (participants own [] (a .kind) (a .forest) (λ e. c .if1 .left (c .before .column-length .ensures ∙ long ∙ e))))
 
-pub first-age-spec : {M : Type 1} → statement M
-first-age-spec =
-    tie.close
-    (tie.spec
-    (λ c κs. tt)
-    (λ c κs. tt)
-    (λ c κs. tt)
-    returns
-    returns-2)
+pub first-age-spec : {M : Type 1} → Rattle.rates.proofs.first_age.Statement.statement M
+first-age-spec = tie.close (tie.spec (λ c κs. tt) (λ c κs. tt) (λ c κs. tt) returns returns-2)

@@ -1,12 +1,8 @@
 -- `rates::own_number` meets its contract: the residue columns come behind the five stock columns.
-use mathlib.Core.Path.{ap, sym, _∙_}
-use Prim.Native.Nat.{ℕ, _+_}
-use native.Mathlib.Omega.{arith}
-use Rattle.schedules.specs.declared.Kind.{Kind}
-use Rattle.rates.specs.Rates.{ownNumber}
+use Rattle.laws.proofs.{ap, sym, _∙_, ℕ, _+_, arith, needs}
+use Rattle.schedules.specs.{Kind}
+use Rattle.rates.specs.{ownNumber}
 use Rattle.rates.proofs.LookUp.{at-most-ten}
-use borrow.Author.Needs.{needs}
-use Rattle.rates.proofs.own_number.Statement.{statement}
 use Rattle.rates.proofs.own_number.Tie as tie
 
 add-result : tie.Need-add-result
@@ -17,13 +13,5 @@ returns-2 c =
     ap (λ (n : ℕ). 5 + n) (c .before .before .own-stock .ensures)
     ∙ sym (ap (λ (kind : Kind). ownNumber kind (c .before .before .before .args .forest)) (c .enum-told2 .given .1))
 
-pub own-number-spec : {M : Type 1} → statement M
-own-number-spec =
-    tie.close
-    (tie.spec
-    (λ c κs. tt)
-    (λ c. search needs)
-    (λ c. search needs)
-    add-result
-    (λ c. search needs)
-    returns-2)
+pub own-number-spec : {M : Type 1} → Rattle.rates.proofs.own_number.Statement.statement M
+own-number-spec = tie.close (tie.spec (λ c κs. tt) (λ c. search needs) (λ c. search needs) add-result (λ c. search needs) returns-2)

@@ -1,14 +1,10 @@
 -- `rates::rate_six` meets its contract: none on bare land, elsewhere by the column consulted and its first age.
-use mathlib.Core.Path.{sym, ap, _∙_}
-use Prim.Native.Nat.{ℕ}
-use mathlib.Core.List.{List}
-use Rattle.schedules.specs.Columns.{listed}
-use Rattle.rates.specs.Rates.{consulted, cellAt, rateSix}
-use Rattle.forest.specs.declared.Forest.{Forest}
+use Rattle.laws.proofs.{sym, ap, _∙_, ℕ, List, needs}
+use Rattle.schedules.specs.{listed}
+use Rattle.rates.specs.{consulted, cellAt, rateSix}
+use Rattle.forest.specs.{Forest}
 use Rattle.rates.proofs.BareLand.{rate, none-on-bare}
 use Rattle.rates.proofs.LookUp.{first-of-any}
-use borrow.Author.Needs.{needs}
-use Rattle.rates.proofs.rate_six.Statement.{statement}
 use Rattle.rates.proofs.rate_six.Tie as tie
 
 returns : tie.Need-returns
@@ -27,13 +23,5 @@ returns-2 c =
     ∙ ap (λ (l : List ℕ). cellAt (listed (c .before .first-age .result) l) (a .age)) (c .before .before .column .ensures)
     ∙ ap (λ (n : ℕ). cellAt (listed n (consulted (a .own .now) (a .default .now) (a .kind) (a .forest) .cells)) (a .age)) first)
 
-pub rate-six-spec : {M : Type 1} → statement M
-rate-six-spec =
-    tie.close
-    (tie.spec
-    (λ c. search needs)
-    returns
-    (λ c κs. tt)
-    (λ c κs. tt)
-    (λ c κs. tt)
-    returns-2)
+pub rate-six-spec : {M : Type 1} → Rattle.rates.proofs.rate_six.Statement.statement M
+rate-six-spec = tie.close (tie.spec (λ c. search needs) returns (λ c κs. tt) (λ c κs. tt) (λ c κs. tt) returns-2)

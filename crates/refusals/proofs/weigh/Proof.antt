@@ -1,7 +1,6 @@
 -- `refusals::weigh` meets its contract, by the verdict so far and the test.
-use borrow.Author.Needs.{needs}
-use Rattle.refusals.specs.Refusals.{weighed}
-use Rattle.refusals.proofs.weigh.Statement.{statement}
+use Rattle.laws.proofs.{needs}
+use Rattle.refusals.specs.{weighed}
 use Rattle.refusals.proofs.weigh.Tie as tie
 
 enum-known-so-far : tie.Need-enum-known-so-far
@@ -22,5 +21,5 @@ returns-3 : tie.Need-returns-3
 unfolding weighed
 returns-3 c = simp (c .before .enum-told .given .1, c .if1 .left)
 
-pub weigh-spec : {M : Type 1} → statement M
+pub weigh-spec : {M : Type 1} → Rattle.refusals.proofs.weigh.Statement.statement M
 weigh-spec = tie.close (tie.spec enum-known-so-far enum-told returns returns-2 returns-3)

@@ -1,15 +1,7 @@
 -- `schedules::place_four` meets its contract: the constant's places are the columns', which antt computes.
-use mathlib.Core.Path.{ap}
-use Prim.Native.Nat.{ℕ}
-use mathlib.Core.List.{_∷_}
-use lib.ListN.{getD}
-use native.Mathlib.Omega.{arith}
-use borrow.Author.Needs.{needs}
+use Rattle.laws.proofs.{ap, ℕ, _∷_, getD, arith, needs}
 use Rattle.forest.proofs.Laws.{thirteen-types}
-use Rattle.schedules.specs.Columns.{noPlace, placesFrom}
-use Rattle.schedules.specs.Cells.{stock4}
-use Rattle.schedules.specs.Schedules.{placeFour}
-use Rattle.schedules.proofs.place_four.Statement.{statement}
+use Rattle.schedules.specs.{noPlace, placesFrom, stock4, placeFour}
 use Rattle.schedules.proofs.place_four.Tie as tie
 
 order-requires : tie.Need-order-requires
@@ -25,5 +17,5 @@ returns : tie.Need-returns
 unfolding placeFour placesFrom stock4
 returns c = ap (λ (k : ℕ). getD (noPlace ∷ placesFrom 0 stock4) k noPlace) (c .before .order .ensures)
 
-pub place-four-spec : {M : Type 1} → statement M
+pub place-four-spec : {M : Type 1} → Rattle.schedules.proofs.place_four.Statement.statement M
 place-four-spec = tie.close (tie.spec order-requires mul-result array-copy-out-result returns)

@@ -1,9 +1,6 @@
 -- `schedules::place_six` meets its contract: each kind has its own places.
-use mathlib.Core.Path.{sym, ap, _∙_}
-use borrow.Author.Needs.{needs}
-use Rattle.schedules.specs.declared.Kind.{Kind}
-use Rattle.schedules.specs.Schedules.{placeSix}
-use Rattle.schedules.proofs.place_six.Statement.{statement}
+use Rattle.laws.proofs.{sym, ap, _∙_, needs}
+use Rattle.schedules.specs.{Kind, placeSix}
 use Rattle.schedules.proofs.place_six.Tie as tie
 
 returns : tie.Need-returns
@@ -14,13 +11,5 @@ returns-2 : tie.Need-returns-2
 returns-2 c =
     c .residue-place .ensures ∙ sym (ap (λ (kind : Kind). placeSix kind (c .before .before .before .args .forest)) (c .before .enum-told2 .given .1))
 
-pub place-six-spec : {M : Type 1} → statement M
-place-six-spec =
-    tie.close
-    (tie.spec
-    (λ c. search needs)
-    (λ c κs. search needs)
-    (λ c. search needs)
-    (λ c κs. search needs)
-    returns
-    returns-2)
+pub place-six-spec : {M : Type 1} → Rattle.schedules.proofs.place_six.Statement.statement M
+place-six-spec = tie.close (tie.spec (λ c. search needs) (λ c κs. search needs) (λ c. search needs) (λ c κs. search needs) returns returns-2)

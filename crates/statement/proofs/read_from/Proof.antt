@@ -1,9 +1,8 @@
 -- `statement::read_from` meets its contract: what was read is tested, and by that the holding is taken or not.
-use mathlib.Core.Path.{ap, _∙_}
-use Rattle.statement_parse.specs.declared.HoldingRead.{HoldingRead}
-use Rattle.statement.specs.Statement.{acceptable, readIf, readOf}
+use Rattle.laws.proofs.{ap, _∙_, needs}
+use Rattle.statement_parse.specs.{HoldingRead}
+use Rattle.statement.specs.{acceptable, readIf, readOf}
 use Rattle.statement.proofs.Laws.{taken, refused}
-use borrow.Author.Needs.{needs}
 use Rattle.statement.proofs.read_from.Statement.{statement}
 use Rattle.statement.proofs.read_from.Tie as tie
 
@@ -25,11 +24,4 @@ returns-2 c =
     ∙ ap (λ (r : HoldingRead). readIf (acceptable s r) (r .holding)) (read .ensures)
 
 pub read-from-spec : {M : Type 1} → statement M
-read-from-spec =
-    tie.close
-    (tie.spec
-    (λ c κs. search needs)
-    (λ c κs. search needs)
-    returns
-    (λ c κs. search needs)
-    returns-2)
+read-from-spec = tie.close (tie.spec (λ c κs. search needs) (λ c κs. search needs) returns (λ c κs. search needs) returns-2)

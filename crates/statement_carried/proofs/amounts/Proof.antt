@@ -1,14 +1,12 @@
 -- `statement_carried::amounts` meets its contract, which joins the same tests; sixteen sub-areas keep the product small.
-use mathlib.Core.Path.{refl}
-use Rattle.laws.specs.Tests.{allOf}
-use Rattle.statement_carried.specs.Carried.{amountsCarried}
-use borrow.Author.Needs.{needs}
-use Rattle.statement_carried.proofs.amounts.Statement.{statement}
+use Rattle.laws.proofs.{refl, needs}
+use Rattle.laws.specs.{allOf}
+use Rattle.statement_carried.specs.{amountsCarried}
 use Rattle.statement_carried.proofs.amounts.Tie as tie
 
 returns : tie.Need-returns
 unfolding amountsCarried allOf
 returns c = refl
 
-pub amounts-spec : {M : Type 1} → statement M
+pub amounts-spec : {M : Type 1} → Rattle.statement_carried.proofs.amounts.Statement.statement M
 amounts-spec = tie.close (tie.spec (λ c. search needs) (λ c. search needs) (λ c. search needs) returns)

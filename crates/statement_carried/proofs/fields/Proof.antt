@@ -1,9 +1,7 @@
 -- `statement_carried::fields` meets its contract: a count past the sub-areas' places is refused before the product is taken.
-use borrow.Author.Tests.{le-leb, lt-leb}
-use Rattle.laws.specs.Tests.{allOf}
-use Rattle.statement_carried.specs.Carried.{fieldsCarried}
-use borrow.Author.Needs.{needs}
-use Rattle.statement_carried.proofs.fields.Statement.{statement}
+use Rattle.laws.proofs.{le-leb, lt-leb, needs}
+use Rattle.laws.specs.{allOf}
+use Rattle.statement_carried.specs.{fieldsCarried}
 use Rattle.statement_carried.proofs.fields.Tie as tie
 
 returns : tie.Need-returns
@@ -14,12 +12,5 @@ returns-2 : tie.Need-returns-2
 unfolding fieldsCarried allOf
 returns-2 c = simp (c .amounts .ensures, c .before .years .ensures, c .before .before .is-area .ensures, le-leb _ _ (c .before .before .before .if1 .left))
 
-pub fields-spec : {M : Type 1} → statement M
-fields-spec =
-    tie.close
-    (tie.spec
-    returns
-    (λ c κs. search needs)
-    (λ c κs. search needs)
-    (λ c κs. search needs)
-    returns-2)
+pub fields-spec : {M : Type 1} → Rattle.statement_carried.proofs.fields.Statement.statement M
+fields-spec = tie.close (tie.spec returns (λ c κs. search needs) (λ c κs. search needs) (λ c κs. search needs) returns-2)

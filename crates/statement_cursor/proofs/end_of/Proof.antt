@@ -1,11 +1,7 @@
 -- `statement_cursor::end_of` meets its contract. The loop's invariant: the end of the field, seen from i, is where it was at its start.
-use Prim.Native.Nat.{_+_, _-_, _≤_}
-use mathlib.Core.Path.{_≡_, refl}
-use native.Mathlib.Omega.{arith}
-use lib.ListN.{length, drop}
-use Rattle.statement_cursor.specs.Cursor.{widthTo}
+use Rattle.laws.proofs.{_+_, _-_, _≤_, _≡_, refl, arith, length, drop}
+use Rattle.statement_cursor.specs.{widthTo}
 use Rattle.statement_cursor.proofs.Fields.{end-later, end-here, end-none}
-use Rattle.statement_cursor.proofs.end_of.Statement.{statement}
 use Rattle.statement_cursor.proofs.end_of.Tie as tie
 
 abbrev Inv-loop : tie.InvT-loop
@@ -37,5 +33,5 @@ returns-2 c =
     let none = end-none (a .end) (a .s .now) (c .before .loop .i) (c .loop-test .left) in
     (omega arith, omega arith)
 
-pub end-of-spec : {M : Type 1} → statement M
+pub end-of-spec : {M : Type 1} → Rattle.statement_cursor.proofs.end_of.Statement.statement M
 end-of-spec = tie.close (tie.spec Inv-loop μ-loop loop-holds (λ c. omega arith) returns (λ c. omega arith) (λ c. omega arith) loop-again returns-2)

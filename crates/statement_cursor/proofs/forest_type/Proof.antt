@@ -1,11 +1,8 @@
 -- `statement_cursor::forest_type` meets its contract, by the tests on the place and the end, and by what the bytes before the end name.
-use Prim.Native.Nat.{_+_}
-use mathlib.Core.Path.{_≡_, sym, _∙_}
-use Rattle.forest.specs.declared.Named.{Named}
-use Rattle.statement_cursor.specs.Cursor.{typeBefore, typeAt}
+use Rattle.laws.proofs.{_+_, _≡_, sym, _∙_, needs}
+use Rattle.forest.specs.{Named}
+use Rattle.statement_cursor.specs.{typeBefore, typeAt}
 use Rattle.statement_cursor.proofs.Fields.{field-nowhere, field-unended, type-read}
-use borrow.Author.Needs.{needs}
-use Rattle.statement_cursor.proofs.forest_type.Statement.{statement}
 use Rattle.statement_cursor.proofs.forest_type.Tie as tie
 
 -- where the bytes before the end were read
@@ -31,19 +28,6 @@ returns-4 : tie.Need-returns-4
 unfolding typeBefore
 returns-4 c = known (c .before .before) _ (c .enum-told .given .1)
 
-pub forest-type-spec : {M : Type 1} → statement M
-forest-type-spec =
-    tie.close
-    (tie.spec
-    returns
-    (λ c κs. search needs)
-    returns-2
-    (λ c. search needs)
-    (λ c. search needs)
-    (λ c. search needs)
-    (λ c κs. search needs)
-    (λ c. search needs)
-    (λ c. search needs)
-    (λ c. search needs)
-    returns-3
-    returns-4)
+pub forest-type-spec : {M : Type 1} → Rattle.statement_cursor.proofs.forest_type.Statement.statement M
+forest-type-spec = tie.close (tie.spec returns (λ c κs. search needs) returns-2 (λ c. search needs) (λ c. search needs) (λ c. search needs)
+    (λ c κs. search needs) (λ c. search needs) (λ c. search needs) (λ c. search needs) returns-3 returns-4)

@@ -1,12 +1,8 @@
 -- `statement_cursor::number` meets its contract, by the tests on the place and the end, and by what the bytes before the end are.
-use Prim.Native.Nat.{_+_}
-use mathlib.Core.Path.{_≡_, sym, _∙_}
-use native.Mathlib.Omega.{arith}
-use Rattle.text_number.specs.declared.Number.{Number}
-use Rattle.statement_cursor.specs.Cursor.{numberBefore, numberAt}
+use Rattle.laws.proofs.{_+_, _≡_, sym, _∙_, arith, needs}
+use Rattle.text_number.specs.{Number}
+use Rattle.statement_cursor.specs.{numberBefore, numberAt}
 use Rattle.statement_cursor.proofs.Fields.{field-nowhere, field-unended, number-read, number-kept, number-over}
-use borrow.Author.Needs.{needs}
-use Rattle.statement_cursor.proofs.number.Statement.{statement}
 use Rattle.statement_cursor.proofs.number.Tie as tie
 
 -- where the bytes before the end were read
@@ -38,22 +34,6 @@ returns-6 : tie.Need-returns-6
 unfolding numberBefore
 returns-6 c = (known (c .before .before) _ (c .enum-told2 .given .1), omega arith)
 
-pub number-spec : {M : Type 1} → statement M
-number-spec =
-    tie.close
-    (tie.spec
-    returns
-    (λ c κs. search needs)
-    returns-2
-    (λ c. search needs)
-    (λ c. search needs)
-    (λ c. search needs)
-    (λ c κs. search needs)
-    (λ c. search needs)
-    (λ c. search needs)
-    returns-3
-    (λ c. search needs)
-    (λ c. search needs)
-    returns-4
-    returns-5
-    returns-6)
+pub number-spec : {M : Type 1} → Rattle.statement_cursor.proofs.number.Statement.statement M
+number-spec = tie.close (tie.spec returns (λ c κs. search needs) returns-2 (λ c. search needs) (λ c. search needs) (λ c. search needs)
+    (λ c κs. search needs) (λ c. search needs) (λ c. search needs) returns-3 (λ c. search needs) (λ c. search needs) returns-4 returns-5 returns-6)

@@ -1,8 +1,6 @@
 -- `statement_cursor::start` meets its contract, by the tests on the letter and the comma.
-use native.Mathlib.Omega.{arith}
+use Rattle.laws.proofs.{arith, needs}
 use Rattle.statement_cursor.proofs.Starts.{start-short, start-other, start-no-comma, start-found}
-use borrow.Author.Needs.{needs}
-use Rattle.statement_cursor.proofs.start.Statement.{statement}
 use Rattle.statement_cursor.proofs.start.Tie as tie
 
 returns : tie.Need-returns
@@ -23,16 +21,6 @@ returns-5 c =
     let found = start-found (a .s .now) (a .at) (a .letter) (omega arith) (c .before .before .before .if2 .left) (c .if4 .left) in
     omega arith
 
-pub start-spec : {M : Type 1} → statement M
-start-spec =
-    tie.close
-    (tie.spec
-    returns
-    (λ c. search needs)
-    returns-2
-    (λ c. search needs)
-    returns-3
-    (λ c. search needs)
-    returns-4
-    (λ c. search needs)
+pub start-spec : {M : Type 1} → Rattle.statement_cursor.proofs.start.Statement.statement M
+start-spec = tie.close (tie.spec returns (λ c. search needs) returns-2 (λ c. search needs) returns-3 (λ c. search needs) returns-4 (λ c. search needs)
     returns-5)

@@ -1,17 +1,9 @@
 -- `statement_distinct::area_bears` meets its contract. The loop's invariant: what was found and what stands from here on make the whole.
-use Prim.Native.Nat.{_-_}
-use mathlib.Core.Bool.{false, _||_}
-use mathlib.Core.List.{[]}
-use mathlib.Core.Path.{_≡_, refl}
-use native.Mathlib.Omega.{arith}
-use lib.Dec.{eqb}
-use lib.ListN.{length, take, drop}
-use Rattle.laws.specs.Elements.{some}
+use Rattle.laws.proofs.{_-_, false, _||_, [], _≡_, refl, arith, eqb, length, take, drop, needs}
+use Rattle.laws.specs.{some}
 use Rattle.laws.proofs.Standing.{as-long}
 use Rattle.laws.proofs.Turns.{some-end, some-out, some-more}
-use Rattle.holding.specs.declared.Area.{Area}
-use borrow.Author.Needs.{needs}
-use Rattle.statement_distinct.proofs.area_bears.Statement.{statement}
+use Rattle.holding.specs.{Area, mostAreas}
 use Rattle.statement_distinct.proofs.area_bears.Tie as tie
 
 -- what a look past the array would find
@@ -23,10 +15,10 @@ Inv-loop from number holding n found₀ i₀ found i =
     (found || some (λ (x : Area). eqb (x .number) number) (drop i (take n (holding .areas)))) ≡ some (λ (x : Area). eqb (x .number) number) (drop from (take n (holding .areas)))
 
 abbrev μ-loop : tie.MeasureT-loop
-μ-loop from number holding n found₀ i₀ found i = 16 - i
+μ-loop from number holding n found₀ i₀ found i = mostAreas - i
 
-sixteen : (c : tie.Start Inv-loop μ-loop) → length (c .args .t1 .areas) ≡ 16
-sixteen c = search (needs, as-long)
+all-places : (c : tie.Start Inv-loop μ-loop) → length (c .args .t1 .areas) ≡ mostAreas
+all-places c = search (needs, as-long)
 
 loop-holds : tie.Need-loop-holds Inv-loop μ-loop
 loop-holds c = refl
@@ -38,25 +30,14 @@ loop-again : tie.Need-loop-again Inv-loop μ-loop
 loop-again c =
     let b = c .before .before in
     let a = b .before .args in
-    some-more (λ (x : Area). eqb (x .number) (a .number)) (a .t1 .areas) (a .t1 .count) (b .loop .i) (b .loop .found) _ (b .loop .inv) blank _ (c .if1 .left) (omega (arith, sixteen (b .before))) refl
+    some-more (λ (x : Area). eqb (x .number) (a .number)) (a .t1 .areas) (a .t1 .count) (b .loop .i) (b .loop .found) _ (b .loop .inv) blank _ (c .if1 .left) (omega (arith, all-places (b .before))) refl
 
 returns-2 : tie.Need-returns-2 Inv-loop μ-loop
 returns-2 c =
     let b = c .before in
     let a = b .before .args in
-    some-out (λ (x : Area). eqb (x .number) (a .number)) (a .t1 .areas) (a .t1 .count) (b .loop .i) _ _ (b .loop .inv) (omega (arith, sixteen (b .before)))
+    some-out (λ (x : Area). eqb (x .number) (a .number)) (a .t1 .areas) (a .t1 .count) (b .loop .i) _ _ (b .loop .inv) (omega (arith, all-places (b .before)))
 
-pub area-bears-spec : {M : Type 1} → statement M
-area-bears-spec =
-    tie.close
-    (tie.spec
-    Inv-loop
-    μ-loop
-    loop-holds
-    returns
-    (λ c. search needs)
-    (λ c. search needs)
-    (λ c. search needs)
-    (λ c. search needs)
-    loop-again
-    returns-2)
+pub area-bears-spec : {M : Type 1} → Rattle.statement_distinct.proofs.area_bears.Statement.statement M
+area-bears-spec = tie.close (tie.spec Inv-loop μ-loop loop-holds returns (λ c. search needs) (λ c. search needs) (λ c. search needs)
+    (λ c. search needs) loop-again returns-2)

@@ -1,8 +1,7 @@
 -- `statement_field::put_start` meets its contract: a byte, and a byte.
-use Rattle.statement_format.specs.Format.{startText}
+use Rattle.laws.proofs.{needs}
+use Rattle.statement_format.specs.{startText}
 use Rattle.statement_field.proofs.Puts.{put-then, put-one}
-use borrow.Author.Needs.{needs}
-use Rattle.statement_field.proofs.put_start.Statement.{statement}
 use Rattle.statement_field.proofs.put_start.Tie as tie
 
 returns : tie.Need-returns
@@ -12,5 +11,5 @@ returns c =
     let letter = comma .before .before .before .before in
     put-then (put-one (letter .put-byte .ensures)) (put-one (comma .put-byte2 .ensures))
 
-pub put-start-spec : {M : Type 1} → statement M
+pub put-start-spec : {M : Type 1} → Rattle.statement_field.proofs.put_start.Statement.statement M
 put-start-spec = tie.close (tie.spec (λ c κs. search needs) (λ c κs. search needs) (λ c. search needs) returns)

@@ -1,25 +1,20 @@
 -- `statement_judge::areas` meets its contract. The loop's invariant: what is kept so far and from here on makes the whole.
-use Prim.Native.Nat.{_-_}
-use mathlib.Core.Bool.{_&&_}
-use mathlib.Core.Path.{_≡_, refl}
-use native.Mathlib.Omega.{arith}
-use lib.ListN.{length, take, drop}
-use Rattle.laws.specs.Elements.{every}
+use Rattle.laws.proofs.{_-_, _&&_, _≡_, refl, arith, length, take, drop, needs}
+use Rattle.laws.specs.{every}
 use Rattle.laws.proofs.Standing.{as-long}
 use Rattle.laws.proofs.Turns.{every-end, every-out, every-more}
-use Rattle.statement_carried.specs.Carried.{areaCarried}
-use borrow.Author.Needs.{needs}
-use Rattle.statement_judge.proofs.areas.Statement.{statement}
+use Rattle.holding.specs.{mostAreas}
+use Rattle.statement_carried.specs.{areaCarried}
 use Rattle.statement_judge.proofs.areas.Tie as tie
 
 abbrev Inv-loop : tie.InvT-loop
 Inv-loop holding n kept₀ i₀ kept i = (kept && every areaCarried (drop i (take n (holding .areas)))) ≡ every areaCarried (take n (holding .areas))
 
 abbrev μ-loop : tie.MeasureT-loop
-μ-loop holding n kept₀ i₀ kept i = 16 - i
+μ-loop holding n kept₀ i₀ kept i = mostAreas - i
 
-sixteen : (c : tie.Start Inv-loop μ-loop) → length (c .args .t1 .areas) ≡ 16
-sixteen c = search (needs, as-long)
+all-places : (c : tie.Start Inv-loop μ-loop) → length (c .args .t1 .areas) ≡ mostAreas
+all-places c = search (needs, as-long)
 
 loop-holds : tie.Need-loop-holds Inv-loop μ-loop
 loop-holds c = refl
@@ -31,27 +26,15 @@ loop-again : tie.Need-loop-again Inv-loop μ-loop
 loop-again c =
     let b = c .before .before .before .before in
     let a = b .before .args in
-    every-more areaCarried (a .t1 .areas) (a .t1 .count) (b .loop .i) (b .loop .kept) _ (b .loop .inv) _ _ (c .before .before .if1 .left) (omega (arith, sixteen (b .before)))
+    every-more areaCarried (a .t1 .areas) (a .t1 .count) (b .loop .i) (b .loop .kept) _ (b .loop .inv) _ _ (c .before .before .if1 .left) (omega (arith, all-places (b .before)))
     (c .area .ensures)
 
 returns-2 : tie.Need-returns-2 Inv-loop μ-loop
 returns-2 c =
     let b = c .before in
     let a = b .before .args in
-    every-out areaCarried (a .t1 .areas) (a .t1 .count) (b .loop .i) _ _ (b .loop .inv) (omega (arith, sixteen (b .before)))
+    every-out areaCarried (a .t1 .areas) (a .t1 .count) (b .loop .i) _ _ (b .loop .inv) (omega (arith, all-places (b .before)))
 
-pub areas-spec : {M : Type 1} → statement M
-areas-spec =
-    tie.close
-    (tie.spec
-    Inv-loop
-    μ-loop
-    loop-holds
-    returns
-    (λ c. search needs)
-    (λ c. search needs)
-    (λ c κs. search needs)
-    (λ c. search needs)
-    (λ c. search needs)
-    loop-again
-    returns-2)
+pub areas-spec : {M : Type 1} → Rattle.statement_judge.proofs.areas.Statement.statement M
+areas-spec = tie.close (tie.spec Inv-loop μ-loop loop-holds returns (λ c. search needs) (λ c. search needs) (λ c κs. search needs) (λ c. search needs)
+    (λ c. search needs) loop-again returns-2)

@@ -1,9 +1,7 @@
 -- `statement_judge::residue` meets its contract, by whether there is a residue.
-use mathlib.Core.Path.{sym, _∙_}
-use Rattle.laws.specs.Tests.{allOf}
-use Rattle.statement_carried.specs.Carried.{residueCarried}
-use borrow.Author.Needs.{needs}
-use Rattle.statement_judge.proofs.residue.Statement.{statement}
+use Rattle.laws.proofs.{sym, _∙_, needs}
+use Rattle.laws.specs.{allOf}
+use Rattle.statement_carried.specs.{residueCarried}
 use Rattle.statement_judge.proofs.residue.Tie as tie
 
 returns : tie.Need-returns
@@ -16,5 +14,5 @@ returns-2 c =
     let b = c .before .before .before .before .before in
     simp (sym (b .before .is-bare .ensures) ∙ b .if1 .left)
 
-pub residue-spec : {M : Type 1} → statement M
+pub residue-spec : {M : Type 1} → Rattle.statement_judge.proofs.residue.Statement.statement M
 residue-spec = tie.close (tie.spec (λ c κs. search needs) returns returns-2)

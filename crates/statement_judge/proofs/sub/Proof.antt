@@ -1,8 +1,7 @@
 -- `statement_judge::sub` meets its contract, which joins the same tests.
-use Rattle.laws.specs.Tests.{allOf}
-use Rattle.statement_carried.specs.Carried.{subCarried}
-use borrow.Author.Needs.{needs}
-use Rattle.statement_judge.proofs.sub.Statement.{statement}
+use Rattle.laws.proofs.{needs}
+use Rattle.laws.specs.{allOf}
+use Rattle.statement_carried.specs.{subCarried}
 use Rattle.statement_judge.proofs.sub.Tie as tie
 
 returns : tie.Need-returns
@@ -11,13 +10,6 @@ returns c =
     let p = c .before .before .before in
     simp (c .residue .ensures, c .before .before .greater .ensures, p .is-planted .ensures, p .before .is-land .ensures, p .before .before .is-sub .ensures)
 
-pub sub-spec : {M : Type 1} → statement M
-sub-spec =
-    tie.close
-    (tie.spec
-    (λ c κs. search needs)
-    (λ c κs. search needs)
-    (λ c κs. search needs)
-    (λ c κs. search needs)
-    (λ c κs. search needs)
+pub sub-spec : {M : Type 1} → Rattle.statement_judge.proofs.sub.Statement.statement M
+sub-spec = tie.close (tie.spec (λ c κs. search needs) (λ c κs. search needs) (λ c κs. search needs) (λ c κs. search needs) (λ c κs. search needs)
     returns)

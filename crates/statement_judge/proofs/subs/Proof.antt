@@ -1,25 +1,20 @@
 -- `statement_judge::subs` meets its contract. The loop's invariant: what is kept so far and from here on makes the whole.
-use Prim.Native.Nat.{_-_}
-use mathlib.Core.Bool.{_&&_}
-use mathlib.Core.Path.{_≡_, refl}
-use native.Mathlib.Omega.{arith}
-use lib.ListN.{length, take, drop}
-use Rattle.laws.specs.Elements.{every}
+use Rattle.laws.proofs.{_-_, _&&_, _≡_, refl, arith, length, take, drop, needs}
+use Rattle.laws.specs.{every}
 use Rattle.laws.proofs.Standing.{as-long}
 use Rattle.laws.proofs.Turns.{every-end, every-out, every-more}
-use Rattle.statement_carried.specs.Carried.{subCarried}
-use borrow.Author.Needs.{needs}
-use Rattle.statement_judge.proofs.subs.Statement.{statement}
+use Rattle.holding.specs.{mostSubs}
+use Rattle.statement_carried.specs.{subCarried}
 use Rattle.statement_judge.proofs.subs.Tie as tie
 
 abbrev Inv-loop : tie.InvT-loop
 Inv-loop area n kept₀ i₀ kept i = (kept && every (subCarried area) (drop i (take n (area .subs)))) ≡ every (subCarried area) (take n (area .subs))
 
 abbrev μ-loop : tie.MeasureT-loop
-μ-loop area n kept₀ i₀ kept i = 16 - i
+μ-loop area n kept₀ i₀ kept i = mostSubs - i
 
-sixteen : (c : tie.Start Inv-loop μ-loop) → length (c .args .t1 .subs) ≡ 16
-sixteen c = search (needs, as-long)
+all-places : (c : tie.Start Inv-loop μ-loop) → length (c .args .t1 .subs) ≡ mostSubs
+all-places c = search (needs, as-long)
 
 loop-holds : tie.Need-loop-holds Inv-loop μ-loop
 loop-holds c = refl
@@ -31,26 +26,14 @@ loop-again : tie.Need-loop-again Inv-loop μ-loop
 loop-again c =
     let b = c .before .before .before .before in
     let a = b .before .args in
-    every-more (subCarried (a .t1)) (a .t1 .subs) (a .t1 .count) (b .loop .i) (b .loop .kept) _ (b .loop .inv) _ _ (c .before .before .if1 .left) (omega (arith, sixteen (b .before))) (c .sub .ensures)
+    every-more (subCarried (a .t1)) (a .t1 .subs) (a .t1 .count) (b .loop .i) (b .loop .kept) _ (b .loop .inv) _ _ (c .before .before .if1 .left) (omega (arith, all-places (b .before))) (c .sub .ensures)
 
 returns-2 : tie.Need-returns-2 Inv-loop μ-loop
 returns-2 c =
     let b = c .before in
     let a = b .before .args in
-    every-out (subCarried (a .t1)) (a .t1 .subs) (a .t1 .count) (b .loop .i) _ _ (b .loop .inv) (omega (arith, sixteen (b .before)))
+    every-out (subCarried (a .t1)) (a .t1 .subs) (a .t1 .count) (b .loop .i) _ _ (b .loop .inv) (omega (arith, all-places (b .before)))
 
-pub subs-spec : {M : Type 1} → statement M
-subs-spec =
-    tie.close
-    (tie.spec
-    Inv-loop
-    μ-loop
-    loop-holds
-    returns
-    (λ c. search needs)
-    (λ c. search needs)
-    (λ c κs. search needs)
-    (λ c. search needs)
-    (λ c. search needs)
-    loop-again
-    returns-2)
+pub subs-spec : {M : Type 1} → Rattle.statement_judge.proofs.subs.Statement.statement M
+subs-spec = tie.close (tie.spec Inv-loop μ-loop loop-holds returns (λ c. search needs) (λ c. search needs) (λ c κs. search needs) (λ c. search needs)
+    (λ c. search needs) loop-again returns-2)

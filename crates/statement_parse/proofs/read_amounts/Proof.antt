@@ -1,7 +1,6 @@
 -- `statement_parse::read_amounts` meets its contract: each field is read at the place after the one before, as in the definition.
-use Rattle.statement_parse.specs.Reading.{amountsAt}
-use borrow.Author.Needs.{needs}
-use Rattle.statement_parse.proofs.read_amounts.Statement.{statement}
+use Rattle.laws.proofs.{needs}
+use Rattle.statement_parse.specs.{amountsAt}
 use Rattle.statement_parse.proofs.read_amounts.Tie as tie
 
 returns : tie.Need-returns
@@ -17,14 +16,6 @@ returns c =
       stock .before .before .number .ensures .0,
     )
 
-pub read-amounts-spec : {M : Type 1} → statement M
-read-amounts-spec =
-    tie.close
-    (tie.spec
-    (λ c κs. search needs)
-    (λ c κs. search needs)
-    (λ c κs. search needs)
-    (λ c κs. search needs)
-    (λ c κs. search needs)
-    (λ c. search needs)
-    returns)
+pub read-amounts-spec : {M : Type 1} → Rattle.statement_parse.proofs.read_amounts.Statement.statement M
+read-amounts-spec = tie.close (tie.spec (λ c κs. search needs) (λ c κs. search needs) (λ c κs. search needs) (λ c κs. search needs)
+    (λ c κs. search needs) (λ c. search needs) returns)

@@ -1,7 +1,6 @@
 -- `statement_parse::read_area` meets its contract: each part is read at the place after the one before, as in the definition.
-use Rattle.statement_parse.specs.Reading.{areaLineAt}
-use borrow.Author.Needs.{needs}
-use Rattle.statement_parse.proofs.read_area.Statement.{statement}
+use Rattle.laws.proofs.{needs}
+use Rattle.statement_parse.specs.{areaLineAt}
 use Rattle.statement_parse.proofs.read_area.Tie as tie
 
 returns : tie.Need-returns
@@ -17,13 +16,6 @@ returns c =
       amounts .before .before .line .ensures,
     )
 
-pub read-area-spec : {M : Type 1} → statement M
-read-area-spec =
-    tie.close
-    (tie.spec
-    (λ c κs. search needs)
-    (λ c κs. search needs)
-    (λ c κs. search needs)
-    (λ c κs. search needs)
-    (λ c κs. search needs)
-    returns)
+pub read-area-spec : {M : Type 1} → Rattle.statement_parse.proofs.read_area.Statement.statement M
+read-area-spec = tie.close (tie.spec (λ c κs. search needs) (λ c κs. search needs) (λ c κs. search needs) (λ c κs. search needs)
+    (λ c κs. search needs) returns)

@@ -1,7 +1,6 @@
 -- `statement_parse::read_sub` meets its contract: each field is read at the place after the one before, as in the definition.
-use Rattle.statement_parse.specs.Reading.{subLineAt}
-use borrow.Author.Needs.{needs}
-use Rattle.statement_parse.proofs.read_sub.Statement.{statement}
+use Rattle.laws.proofs.{needs}
+use Rattle.statement_parse.specs.{subLineAt}
 use Rattle.statement_parse.proofs.read_sub.Tie as tie
 
 returns : tie.Need-returns
@@ -18,17 +17,6 @@ returns c =
       tenths .before .before .line .ensures,
     )
 
-pub read-sub-spec : {M : Type 1} → statement M
-read-sub-spec =
-    tie.close
-    (tie.spec
-    (λ c κs. search needs)
-    (λ c κs. search needs)
-    (λ c κs. search needs)
-    (λ c κs. search needs)
-    (λ c κs. search needs)
-    (λ c κs. search needs)
-    (λ c. search needs)
-    (λ c. search needs)
-    (λ c. search needs)
-    returns)
+pub read-sub-spec : {M : Type 1} → Rattle.statement_parse.proofs.read_sub.Statement.statement M
+read-sub-spec = tie.close (tie.spec (λ c κs. search needs) (λ c κs. search needs) (λ c κs. search needs) (λ c κs. search needs) (λ c κs. search needs)
+    (λ c κs. search needs) (λ c. search needs) (λ c. search needs) (λ c. search needs) returns)

@@ -1,16 +1,8 @@
 -- `statement_parse::read_subs` meets its contract. The loop's invariant: the sub-areas left to read give, from here on, what all of them give from the start.
-use Prim.Native.Nat.{ℕ, _-_, _≤_}
-use mathlib.Core.Path.{_≡_, refl, ap, _∙_}
-use mathlib.Core.List.{List}
-use native.Mathlib.Omega.{arith}
-use lib.ListN.{length, replicate, length-set}
-use Rattle.holding.specs.declared.Sub.{Sub}
-use Rattle.holding.specs.Holding.{mostSubs, emptySub}
-use Rattle.statement_parse.specs.declared.SubRead.{SubRead}
-use Rattle.statement_parse.specs.Reading.{subsFrom, subsAt}
+use Rattle.laws.proofs.{ℕ, _-_, _≤_, _≡_, refl, ap, _∙_, List, arith, length, replicate, length-set, needs}
+use Rattle.holding.specs.{Sub, mostSubs, emptySub}
+use Rattle.statement_parse.specs.{SubRead, subsFrom, subsAt}
 use Rattle.statement_parse.proofs.Items.{items-more, items-done}
-use borrow.Author.Needs.{needs}
-use Rattle.statement_parse.proofs.read_subs.Statement.{statement}
 use Rattle.statement_parse.proofs.read_subs.Tie as tie
 
 abbrev Inv-loop : tie.InvT-loop
@@ -44,18 +36,6 @@ returns c =
     let l = c .before .loop in
     ap (λ (x : List Sub × ℕ). record { subs = x .0; next = x .1 }) (items-done _ _ _ (l .i) (l .subs) (l .next) (c .loop-test .left) ∙ l .inv .2)
 
-pub read-subs-spec : {M : Type 1} → statement M
-read-subs-spec =
-    tie.close
-    (tie.spec
-    Inv-loop
-    μ-loop
-    (λ c κs. search needs)
-    loop-holds
-    (λ c κs. search needs)
-    (λ c. search needs)
-    (λ c. search needs)
-    (λ c. search needs)
-    (λ c. search needs)
-    loop-again
-    returns)
+pub read-subs-spec : {M : Type 1} → Rattle.statement_parse.proofs.read_subs.Statement.statement M
+read-subs-spec = tie.close (tie.spec Inv-loop μ-loop (λ c κs. search needs) loop-holds (λ c κs. search needs) (λ c. search needs) (λ c. search needs)
+    (λ c. search needs) (λ c. search needs) loop-again returns)

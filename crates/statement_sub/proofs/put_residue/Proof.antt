@@ -1,8 +1,7 @@
 -- `statement_sub::put_residue` meets its contract: its three fields, one after the other.
-use Rattle.statement_format.specs.Format.{joined, residueText}
+use Rattle.laws.proofs.{needs}
+use Rattle.statement_format.specs.{joined, residueText}
 use Rattle.statement_field.proofs.Puts.{put-then, put-last}
-use borrow.Author.Needs.{needs}
-use Rattle.statement_sub.proofs.put_residue.Statement.{statement}
 use Rattle.statement_sub.proofs.put_residue.Tie as tie
 
 returns : tie.Need-returns
@@ -13,12 +12,5 @@ returns c =
     let forest = age .before .before .before .before in
     put-then (forest .put-type .ensures) (put-then (age .put-short .ensures) (put-last (year .put-short2 .ensures)))
 
-pub put-residue-spec : {M : Type 1} → statement M
-put-residue-spec =
-    tie.close
-    (tie.spec
-    (λ c κs. search needs)
-    (λ c κs. search needs)
-    (λ c κs. search needs)
-    (λ c. search needs)
-    returns)
+pub put-residue-spec : {M : Type 1} → Rattle.statement_sub.proofs.put_residue.Statement.statement M
+put-residue-spec = tie.close (tie.spec (λ c κs. search needs) (λ c κs. search needs) (λ c κs. search needs) (λ c. search needs) returns)

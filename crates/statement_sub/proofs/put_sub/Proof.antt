@@ -1,8 +1,7 @@
 -- `statement_sub::put_sub` meets its contract: its fields, one after the other.
-use Rattle.statement_format.specs.Format.{joined, subText}
+use Rattle.laws.proofs.{needs}
+use Rattle.statement_format.specs.{joined, subText}
 use Rattle.statement_field.proofs.Puts.{put-then, put-last}
-use borrow.Author.Needs.{needs}
-use Rattle.statement_sub.proofs.put_sub.Statement.{statement}
 use Rattle.statement_sub.proofs.put_sub.Tie as tie
 
 returns : tie.Need-returns
@@ -21,17 +20,6 @@ returns c =
     (put-then (planted .put-short2 .ensures)
     (put-last (residue .put-residue .ensures))))))
 
-pub put-sub-spec : {M : Type 1} → statement M
-put-sub-spec =
-    tie.close
-    (tie.spec
-    (λ c κs. search needs)
-    (λ c. search needs)
-    (λ c κs. search needs)
-    (λ c. search needs)
-    (λ c κs. search needs)
-    (λ c κs. search needs)
-    (λ c κs. search needs)
-    (λ c κs. search needs)
-    (λ c. search needs)
-    returns)
+pub put-sub-spec : {M : Type 1} → Rattle.statement_sub.proofs.put_sub.Statement.statement M
+put-sub-spec = tie.close (tie.spec (λ c κs. search needs) (λ c. search needs) (λ c κs. search needs) (λ c. search needs) (λ c κs. search needs)
+    (λ c κs. search needs) (λ c κs. search needs) (λ c κs. search needs) (λ c. search needs) returns)

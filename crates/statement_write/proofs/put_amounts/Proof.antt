@@ -1,10 +1,7 @@
 -- `statement_write::put_amounts` meets its contract: its five fields, one after the other.
-use Prim.Native.Nat.{ℕ}
-use mathlib.Core.Path.{ap}
-use Rattle.statement_format.specs.Format.{joined, numberText, amountsText}
+use Rattle.laws.proofs.{ℕ, ap, needs}
+use Rattle.statement_format.specs.{joined, numberText, amountsText}
 use Rattle.statement_field.proofs.Puts.{put-then, put-last, put-as}
-use borrow.Author.Needs.{needs}
-use Rattle.statement_write.proofs.put_amounts.Statement.{statement}
 use Rattle.statement_write.proofs.put_amounts.Tie as tie
 
 returns : tie.Need-returns
@@ -19,15 +16,6 @@ returns c =
     (put-then (filed .put-short .ensures)
     (put-then (stock .put-field2 .ensures) (put-then (received .put-field3 .ensures) (put-last (surrendered .put-field4 .ensures)))))
 
-pub put-amounts-spec : {M : Type 1} → statement M
-put-amounts-spec =
-    tie.close
-    (tie.spec
-    (λ c κs. search needs)
-    (λ c κs. search needs)
-    (λ c κs. search needs)
-    (λ c κs. search needs)
-    (λ c κs. search needs)
-    (λ c κs. search needs)
-    (λ c. search needs)
-    returns)
+pub put-amounts-spec : {M : Type 1} → Rattle.statement_write.proofs.put_amounts.Statement.statement M
+put-amounts-spec = tie.close (tie.spec (λ c κs. search needs) (λ c κs. search needs) (λ c κs. search needs) (λ c κs. search needs)
+    (λ c κs. search needs) (λ c κs. search needs) (λ c. search needs) returns)

@@ -1,8 +1,7 @@
 -- `statement_write::put_years` meets its contract: its four fields, one after the other.
-use Rattle.statement_format.specs.Format.{joined, yearsText}
+use Rattle.laws.proofs.{needs}
+use Rattle.statement_format.specs.{joined, yearsText}
 use Rattle.statement_field.proofs.Puts.{put-then, put-last}
-use borrow.Author.Needs.{needs}
-use Rattle.statement_write.proofs.put_years.Statement.{statement}
 use Rattle.statement_write.proofs.put_years.Tie as tie
 
 returns : tie.Need-returns
@@ -15,13 +14,6 @@ returns c =
     put-then (number .put-short .ensures)
     (put-then (opening .put-short2 .ensures) (put-then (openYear .put-short3 .ensures) (put-last (latest .put-short4 .ensures))))
 
-pub put-years-spec : {M : Type 1} → statement M
-put-years-spec =
-    tie.close
-    (tie.spec
-    (λ c κs. search needs)
-    (λ c κs. search needs)
-    (λ c κs. search needs)
-    (λ c κs. search needs)
-    (λ c. search needs)
+pub put-years-spec : {M : Type 1} → Rattle.statement_write.proofs.put_years.Statement.statement M
+put-years-spec = tie.close (tie.spec (λ c κs. search needs) (λ c κs. search needs) (λ c κs. search needs) (λ c κs. search needs) (λ c. search needs)
     returns)

@@ -1,7 +1,6 @@
 -- `statement_write::write` meets its contract: the statement is measured, and written where there is room.
-use native.Mathlib.Omega.{arith}
+use Rattle.laws.proofs.{arith, needs}
 use Rattle.statement_write.proofs.Writable.{refused, accepted}
-use borrow.Author.Needs.{needs}
 use Rattle.statement_write.proofs.write.Statement.{statement}
 use Rattle.statement_write.proofs.write.Tie as tie
 
@@ -19,12 +18,4 @@ returns-2 c =
     (test .if1 .left) (done .put-statement2 .ensures .0)
 
 pub write-spec : {M : Type 1} → statement M
-write-spec =
-    tie.close
-    (tie.spec
-    (λ c. search needs)
-    (λ c κs. search needs)
-    returns
-    (λ c κs. search needs)
-    (λ c. search needs)
-    returns-2)
+write-spec = tie.close (tie.spec (λ c. search needs) (λ c κs. search needs) returns (λ c κs. search needs) (λ c. search needs) returns-2)

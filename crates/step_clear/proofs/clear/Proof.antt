@@ -1,8 +1,7 @@
 -- `step_clear::clear` meets its contract, by the verdict on the area that was looked up.
+use Rattle.laws.proofs.{needs}
 use Rattle.step_outcome.proofs.Laws.{refused, taken}
-use Rattle.step_clear.specs.Clearing.{cleared}
-use borrow.Author.Needs.{needs}
-use Rattle.step_clear.proofs.clear.Statement.{statement}
+use Rattle.step_clear.specs.{cleared}
 use Rattle.step_clear.proofs.clear.Tie as tie
 
 returns : tie.Need-returns
@@ -13,14 +12,6 @@ returns-2 : tie.Need-returns-2
 unfolding cleared
 returns-2 c = taken _ _ (c .before .before .before .verdict .ensures) _ _ (c .before .enum-told .given .1) (simp (c .cleared-area .ensures))
 
-pub clear-spec : {M : Type 1} → statement M
-clear-spec =
-    tie.close
-    (tie.spec
-    (λ c κs. search needs)
-    (λ c. search needs)
-    (λ c κs. search needs)
-    (λ c. search needs)
-    (λ c κs. search needs)
-    returns
+pub clear-spec : {M : Type 1} → Rattle.step_clear.proofs.clear.Statement.statement M
+clear-spec = tie.close (tie.spec (λ c κs. search needs) (λ c. search needs) (λ c κs. search needs) (λ c. search needs) (λ c κs. search needs) returns
     returns-2)

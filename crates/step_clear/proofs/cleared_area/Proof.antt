@@ -1,7 +1,6 @@
 -- `step_clear::cleared_area` meets its contract: the sub-area found is put back as the clearing leaves it.
-use Rattle.step_clear.specs.Clearing.{clearedArea}
-use borrow.Author.Needs.{needs}
-use Rattle.step_clear.proofs.cleared_area.Statement.{statement}
+use Rattle.laws.proofs.{needs}
+use Rattle.step_clear.specs.{clearedArea}
 use Rattle.step_clear.proofs.cleared_area.Tie as tie
 
 returns : tie.Need-returns
@@ -9,12 +8,5 @@ unfolding clearedArea
 returns c =
     simp (c .with-sub .ensures, c .before .cleared-sub .ensures, c .before .before .sub-at .ensures, c .before .before .before .find-sub .ensures)
 
-pub cleared-area-spec : {M : Type 1} → statement M
-cleared-area-spec =
-    tie.close
-    (tie.spec
-    (λ c κs. search needs)
-    (λ c κs. search needs)
-    (λ c κs. search needs)
-    (λ c κs. search needs)
-    returns)
+pub cleared-area-spec : {M : Type 1} → Rattle.step_clear.proofs.cleared_area.Statement.statement M
+cleared-area-spec = tie.close (tie.spec (λ c κs. search needs) (λ c κs. search needs) (λ c κs. search needs) (λ c κs. search needs) returns)

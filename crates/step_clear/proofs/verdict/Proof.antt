@@ -1,9 +1,8 @@
 -- `step_clear::verdict` meets its contract: the cases in turn are the table's.
-use Rattle.refusals.specs.Refusals.{weighAll, smallest}
-use Rattle.step_outcome.specs.Outcomes.{areaCases}
-use Rattle.step_clear.specs.Clearing.{clearCases}
-use borrow.Author.Needs.{needs}
-use Rattle.step_clear.proofs.verdict.Statement.{statement}
+use Rattle.laws.proofs.{needs}
+use Rattle.refusals.specs.{weighAll, smallest}
+use Rattle.step_outcome.specs.{areaCases}
+use Rattle.step_clear.specs.{clearCases}
 use Rattle.step_clear.proofs.verdict.Tie as tie
 
 returns : tie.Need-returns
@@ -28,21 +27,7 @@ returns c =
       y .before .before .find-sub .ensures,
     )
 
-pub verdict-spec : {M : Type 1} → statement M
-verdict-spec =
-    tie.close
-    (tie.spec
-    (λ c κs. search needs)
-    (λ c κs. search needs)
-    (λ c κs. search needs)
-    (λ c κs. search needs)
-    (λ c κs. search needs)
-    (λ c κs. search needs)
-    (λ c κs. search needs)
-    (λ c κs. search needs)
-    (λ c κs. search needs)
-    (λ c κs. search needs)
-    (λ c κs. search needs)
-    (λ c κs. search needs)
-    (λ c κs. search needs)
-    returns)
+pub verdict-spec : {M : Type 1} → Rattle.step_clear.proofs.verdict.Statement.statement M
+verdict-spec = tie.close (tie.spec (λ c κs. search needs) (λ c κs. search needs) (λ c κs. search needs) (λ c κs. search needs) (λ c κs. search needs)
+    (λ c κs. search needs) (λ c κs. search needs) (λ c κs. search needs) (λ c κs. search needs) (λ c κs. search needs) (λ c κs. search needs)
+    (λ c κs. search needs) (λ c κs. search needs) returns)

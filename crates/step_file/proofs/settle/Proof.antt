@@ -1,10 +1,8 @@
 -- `step_file::settle` meets its contract: the bounds that a statement carries keep every sum and difference within its numbers.
-use Prim.Native.Nat.{_-_, _≤_}
-use native.Mathlib.Omega.{arith}
+use Rattle.laws.proofs.{_-_, _≤_, arith, needs}
 use Rattle.statement_carried.proofs.Bounds.{Bounds, bounds}
-use Rattle.step_file.specs.Filing.{changeOf, filedArea, returnOf}
+use Rattle.step_file.specs.{changeOf, filedArea, returnOf}
 use Rattle.step_file.proofs.Laws.{received-at-most, due-at-most}
-use borrow.Author.Needs.{needs}
 use Rattle.step_file.proofs.settle.Statement.{statement}
 use Rattle.step_file.proofs.settle.Tie as tie
 
@@ -49,18 +47,5 @@ returns c =
     simp (d .due .ensures, d .before .before .received .ensures, d .before .before .before .change-to .ensures, d .before .before .before .before .area-stock .ensures)
 
 pub settle-spec : {M : Type 1} → statement M
-settle-spec =
-    tie.close
-    (tie.spec
-    (λ c. search needs)
-    (λ c κs. search needs)
-    (λ c κs. search needs)
-    (λ c κs. search needs)
-    sub-due
-    (λ c κs. search needs)
-    (λ c. search needs)
-    add-after-2
-    add-after-3
-    add-after-4
-    sub-balance
-    returns)
+settle-spec = tie.close (tie.spec (λ c. search needs) (λ c κs. search needs) (λ c κs. search needs) (λ c κs. search needs) sub-due
+    (λ c κs. search needs) (λ c. search needs) add-after-2 add-after-3 add-after-4 sub-balance returns)

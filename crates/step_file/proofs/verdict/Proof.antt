@@ -1,9 +1,8 @@
 -- `step_file::verdict` meets its contract: the cases in turn are the table's.
-use Rattle.refusals.specs.Refusals.{weighAll, smallest}
-use Rattle.step_outcome.specs.Outcomes.{areaCases}
-use Rattle.step_file.specs.Filing.{fileCases}
-use borrow.Author.Needs.{needs}
-use Rattle.step_file.proofs.verdict.Statement.{statement}
+use Rattle.laws.proofs.{needs}
+use Rattle.refusals.specs.{weighAll, smallest}
+use Rattle.step_outcome.specs.{areaCases}
+use Rattle.step_file.specs.{fileCases}
 use Rattle.step_file.proofs.verdict.Tie as tie
 
 returns : tie.Need-returns
@@ -19,14 +18,6 @@ returns c =
       w .before .before .before .is-area .ensures,
     )
 
-pub verdict-spec : {M : Type 1} → statement M
-verdict-spec =
-    tie.close
-    (tie.spec
-    (λ c κs. search needs)
-    (λ c κs. search needs)
-    (λ c κs. search needs)
-    (λ c κs. search needs)
-    (λ c κs. search needs)
-    (λ c κs. search needs)
-    returns)
+pub verdict-spec : {M : Type 1} → Rattle.step_file.proofs.verdict.Statement.statement M
+verdict-spec = tie.close (tie.spec (λ c κs. search needs) (λ c κs. search needs) (λ c κs. search needs) (λ c κs. search needs) (λ c κs. search needs)
+    (λ c κs. search needs) returns)

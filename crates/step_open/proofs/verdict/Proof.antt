@@ -1,8 +1,7 @@
 -- `step_open::verdict` meets its contract: the cases in turn are the table's.
-use Rattle.refusals.specs.Refusals.{weighAll, smallest}
-use Rattle.step_open.specs.Opening.{openCases}
-use borrow.Author.Needs.{needs}
-use Rattle.step_open.proofs.verdict.Statement.{statement}
+use Rattle.laws.proofs.{needs}
+use Rattle.refusals.specs.{weighAll, smallest}
+use Rattle.step_open.specs.{openCases}
 use Rattle.step_open.proofs.verdict.Tie as tie
 
 returns : tie.Need-returns
@@ -22,16 +21,6 @@ returns c =
       a .before .is-area .ensures,
     )
 
-pub verdict-spec : {M : Type 1} → statement M
-verdict-spec =
-    tie.close
-    (tie.spec
-    (λ c κs. search needs)
-    (λ c κs. search needs)
-    (λ c κs. search needs)
-    (λ c κs. search needs)
-    (λ c κs. search needs)
-    (λ c κs. search needs)
-    (λ c κs. search needs)
-    (λ c κs. search needs)
-    returns)
+pub verdict-spec : {M : Type 1} → Rattle.step_open.proofs.verdict.Statement.statement M
+verdict-spec = tie.close (tie.spec (λ c κs. search needs) (λ c κs. search needs) (λ c κs. search needs) (λ c κs. search needs) (λ c κs. search needs)
+    (λ c κs. search needs) (λ c κs. search needs) (λ c κs. search needs) returns)

@@ -1,7 +1,6 @@
 -- `step_plant::planted_area` meets its contract: the sub-area found is put back with its new trees.
-use Rattle.step_plant.specs.Planting.{plantedArea}
-use borrow.Author.Needs.{needs}
-use Rattle.step_plant.proofs.planted_area.Statement.{statement}
+use Rattle.laws.proofs.{needs}
+use Rattle.step_plant.specs.{plantedArea}
 use Rattle.step_plant.proofs.planted_area.Tie as tie
 
 returns : tie.Need-returns
@@ -9,12 +8,5 @@ unfolding plantedArea
 returns c =
     simp (c .with-sub .ensures, c .before .planted-sub .ensures, c .before .before .sub-at .ensures, c .before .before .before .find-sub .ensures)
 
-pub planted-area-spec : {M : Type 1} → statement M
-planted-area-spec =
-    tie.close
-    (tie.spec
-    (λ c κs. search needs)
-    (λ c κs. search needs)
-    (λ c κs. search needs)
-    (λ c κs. search needs)
-    returns)
+pub planted-area-spec : {M : Type 1} → Rattle.step_plant.proofs.planted_area.Statement.statement M
+planted-area-spec = tie.close (tie.spec (λ c κs. search needs) (λ c κs. search needs) (λ c κs. search needs) (λ c κs. search needs) returns)

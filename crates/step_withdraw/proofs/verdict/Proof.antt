@@ -1,9 +1,8 @@
 -- `step_withdraw::verdict` meets its contract: the cases in turn are the table's.
-use Rattle.refusals.specs.Refusals.{weighAll, smallest}
-use Rattle.step_outcome.specs.Outcomes.{areaCases}
-use Rattle.step_withdraw.specs.Withdrawing.{withdrawCases}
-use borrow.Author.Needs.{needs}
-use Rattle.step_withdraw.proofs.verdict.Statement.{statement}
+use Rattle.laws.proofs.{needs}
+use Rattle.refusals.specs.{weighAll, smallest}
+use Rattle.step_outcome.specs.{areaCases}
+use Rattle.step_withdraw.specs.{withdrawCases}
 use Rattle.step_withdraw.proofs.verdict.Tie as tie
 
 returns : tie.Need-returns
@@ -15,5 +14,5 @@ returns c =
       c .before .before .is-area .ensures,
     )
 
-pub verdict-spec : {M : Type 1} → statement M
+pub verdict-spec : {M : Type 1} → Rattle.step_withdraw.proofs.verdict.Statement.statement M
 verdict-spec = tie.close (tie.spec (λ c κs. search needs) (λ c κs. search needs) (λ c κs. search needs) returns)

@@ -1,17 +1,12 @@
 -- `stocks::area_stock` meets its contract. The loop's invariant: the sum so far and the stocks of the sub-areas left make the whole.
-use Prim.Native.Nat.{ℕ, _+_, _-_, _*_, _≤_}
-use mathlib.Core.Path.{_≡_, ap}
-use native.Mathlib.Omega.{arith}
+use Rattle.laws.proofs.{ℕ, _+_, _-_, _*_, _≤_, _≡_, ap, arith, length, take, drop, needs}
 use native.Mathlib.Nat.{zero-add}
-use lib.ListN.{length, take, drop}
-use Rattle.laws.specs.Elements.{sumBy}
+use Rattle.laws.specs.{sumBy}
 use Rattle.laws.proofs.Standing.{as-long}
 use Rattle.laws.proofs.Turns.{sum-end, sum-out, sum-more}
-use Rattle.units.specs.declared.Kilograms.{Kilograms}
-use Rattle.holding.specs.declared.Sub.{Sub}
-use Rattle.stocks.specs.Stocks.{subStock, areaStock}
-use borrow.Author.Needs.{needs}
-use Rattle.stocks.proofs.area_stock.Statement.{statement}
+use Rattle.units.specs.{Kilograms}
+use Rattle.holding.specs.{Sub, mostSubs}
+use Rattle.stocks.specs.{subStock, areaStock}
 use Rattle.stocks.proofs.area_stock.Tie as tie
 
 abbrev kilograms : ℕ → Kilograms
@@ -19,15 +14,15 @@ kilograms n = record { 0 = n }
 
 abbrev Inv-loop : tie.InvT-loop
 Inv-loop own default year area n sum₀ i₀ sum i =
-    (i ≤ 16)
+    (i ≤ mostSubs)
     × (sum ≤ 4294967295 * 65535 * 265 * i)
     × (sum + sumBy (λ (sub : Sub). subStock own default sub year .0) (drop i (take n (area .subs))) ≡ areaStock own default area year .0)
 
 abbrev μ-loop : tie.MeasureT-loop
-μ-loop own default year area n sum₀ i₀ sum i = 16 - i
+μ-loop own default year area n sum₀ i₀ sum i = mostSubs - i
 
-sixteen : (c : tie.Start Inv-loop μ-loop) → length (c .args .t3 .subs) ≡ 16
-sixteen c = search (needs, as-long)
+all-places : (c : tie.Start Inv-loop μ-loop) → length (c .args .t3 .subs) ≡ mostSubs
+all-places c = search (needs, as-long)
 
 loop-holds : tie.Need-loop-holds Inv-loop μ-loop
 unfolding areaStock
@@ -45,7 +40,7 @@ loop-again c =
       omega arith,
       omega (arith, c .before .sub-stock .ensures .1, l .inv .1),
       sum-more _ _ _ _ _ _ (l .inv .2) _ _ (c .before .before .before .if1 .left)
-          (omega (arith, sixteen (c .before .before .before .before .before .before .before .before)))
+          (omega (arith, all-places (c .before .before .before .before .before .before .before .before)))
           (ap (λ (k : Kilograms). k .0) (c .before .sub-stock .ensures .0)),
     )
 
@@ -55,21 +50,8 @@ returns-2 c =
     let a = s .args in
     ap kilograms
     (sum-out (λ (sub : Sub). subStock (a .own .now) (a .default .now) sub (a .year) .0) (a .t3 .subs) (a .t3 .count) (c .before .loop .i) _ _
-    (c .before .loop .inv .2) (omega (arith, sixteen s)))
+    (c .before .loop .inv .2) (omega (arith, all-places s)))
 
-pub area-stock-spec : {M : Type 1} → statement M
-area-stock-spec =
-    tie.close
-    (tie.spec
-    Inv-loop
-    μ-loop
-    loop-holds
-    returns
-    (λ c. search needs)
-    (λ c. search needs)
-    (λ c κs. search needs)
-    add-sum
-    (λ c. search needs)
-    (λ c. search needs)
-    loop-again
-    returns-2)
+pub area-stock-spec : {M : Type 1} → Rattle.stocks.proofs.area_stock.Statement.statement M
+area-stock-spec = tie.close (tie.spec Inv-loop μ-loop loop-holds returns (λ c. search needs) (λ c. search needs) (λ c κs. search needs) add-sum
+    (λ c. search needs) (λ c. search needs) loop-again returns-2)

@@ -1,12 +1,7 @@
 -- `table::each_at_most` meets its contract. The loop's invariant: the answer from here on is the answer from the start.
-use mathlib.Core.Path.{_≡_, refl, sym, _∙_}
-use Prim.Native.Nat.{_≤_, _-_}
-use native.Mathlib.Omega.{arith}
-use lib.ListN.{length, drop}
-use borrow.Author.Needs.{needs}
-use Rattle.laws.specs.Lists.{eachAtMost}
+use Rattle.laws.proofs.{_≡_, refl, sym, _∙_, _≤_, _-_, arith, length, drop, needs}
+use Rattle.laws.specs.{eachAtMost}
 use Rattle.laws.proofs.Lists.{each-fails, each-goes-on, each-ends}
-use Rattle.table.proofs.each_at_most.Statement.{statement}
 use Rattle.table.proofs.each_at_most.Tie as tie
 
 abbrev Inv-loop : tie.InvT-loop
@@ -47,17 +42,5 @@ returns-2 c =
     let a = c .before .before .args in
     sym (each-ends (a .ceiling) (a .numbers .now) (c .before .loop .i) (omega arith)) ∙ c .before .loop .inv .1
 
-pub each-at-most-spec : {M : Type 1} → statement M
-each-at-most-spec =
-    tie.close
-    (tie.spec
-    Inv-loop
-    μ-loop
-    loop-holds
-    mul-if1
-    shared-slice-read-if1
-    returns
-    add-i
-    loop-less
-    loop-again
-    returns-2)
+pub each-at-most-spec : {M : Type 1} → Rattle.table.proofs.each_at_most.Statement.statement M
+each-at-most-spec = tie.close (tie.spec Inv-loop μ-loop loop-holds mul-if1 shared-slice-read-if1 returns add-i loop-less loop-again returns-2)

@@ -1,11 +1,8 @@
 -- `table::has_columns` meets its contract, test by test.
-use native.Mathlib.Omega.{arith}
-use borrow.Author.Tests.{lt-leb, le-leb}
+use Rattle.laws.proofs.{arith, lt-leb, le-leb, needs}
 use lib.Seq.{take-take}
 use Rattle.table_parts.proofs.Parts.{to-the-end}
-use Rattle.table.specs.Participant.{hasColumns}
-use borrow.Author.Needs.{needs}
-use Rattle.table.proofs.has_columns.Statement.{statement}
+use Rattle.table.specs.{hasColumns}
 use Rattle.table.proofs.has_columns.Tie as tie
 
 returns : tie.Need-returns
@@ -25,18 +22,6 @@ returns-2 c =
       to-the-end t 10,
     )
 
-pub has-columns-spec : {M : Type 1} → statement M
-has-columns-spec =
-    tie.close
-    (tie.spec
-    returns
-    (λ c. search needs)
-    (λ c. search needs)
-    (λ c. search needs)
-    (λ c. search needs)
-    (λ c. search needs)
-    (λ c. search needs)
-    (λ c κs. search needs)
-    (λ c κs. search needs)
-    (λ c κs. search needs)
-    returns-2)
+pub has-columns-spec : {M : Type 1} → Rattle.table.proofs.has_columns.Statement.statement M
+has-columns-spec = tie.close (tie.spec returns (λ c. search needs) (λ c. search needs) (λ c. search needs) (λ c. search needs) (λ c. search needs)
+    (λ c. search needs) (λ c κs. search needs) (λ c κs. search needs) (λ c κs. search needs) returns-2)

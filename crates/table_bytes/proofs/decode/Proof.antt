@@ -1,14 +1,10 @@
 -- `table_bytes::decode` meets its contract: a clear verdict leaves room for the numbers, and a refusal leaves the buffer.
-use mathlib.Core.Path.{_≡_, sym, _∙_}
-use native.Mathlib.Omega.{arith}
-use lib.ListN.{length}
-use Rattle.refusals.specs.Refusals.{weighAll, smallest}
+use Rattle.laws.proofs.{_≡_, sym, _∙_, arith, length, needs}
+use Rattle.refusals.specs.{weighAll, smallest}
 use Rattle.laws.proofs.Stores.{stored-in-front}
-use Rattle.table_bytes.specs.Bytes.{decodable, numbersOf}
+use Rattle.table_bytes.specs.{decodable, numbersOf}
 use Rattle.table_bytes.proofs.Numbers.{number-count, clear-decodable}
 use Rattle.refusals.proofs.Answers.{when-turned, when-clear}
-use borrow.Author.Needs.{needs}
-use Rattle.table_bytes.proofs.decode.Statement.{statement}
 use Rattle.table_bytes.proofs.decode.Tie as tie
 
 verdict : (c : tie.After-weigh3)
@@ -35,16 +31,6 @@ returns-2 c =
     (sym (number-count (a .bytes .now)))
     (c .before .before .put-numbers .ensures ∙ stored-in-front (numbersOf (a .bytes .now)) (a .out .now) (omega (arith, number-count (a .bytes .now))))
 
-pub decode-spec : {M : Type 1} → statement M
-decode-spec =
-    tie.close
-    (tie.spec
-    (λ c κs. search needs)
-    (λ c κs. search needs)
-    (λ c κs. search needs)
-    (λ c. search needs)
-    (λ c. search needs)
-    put-numbers-requires
-    returns
-    (λ c. search needs)
-    returns-2)
+pub decode-spec : {M : Type 1} → Rattle.table_bytes.proofs.decode.Statement.statement M
+decode-spec = tie.close (tie.spec (λ c κs. search needs) (λ c κs. search needs) (λ c κs. search needs) (λ c. search needs) (λ c. search needs)
+    put-numbers-requires returns (λ c. search needs) returns-2)

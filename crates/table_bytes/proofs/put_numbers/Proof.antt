@@ -1,13 +1,7 @@
 -- `table_bytes::put_numbers` meets its contract. The loop's invariant: storing what is left stores all.
-use Prim.Native.Nat.{_≤_, _-_, _*_, _+_}
-use mathlib.Core.Path.{_≡_, refl, _∙_}
-use native.Mathlib.Omega.{arith}
-use lib.ListN.{length, drop, length-set}
-use lib.Seq.{sets}
-use Rattle.table_bytes.specs.Bytes.{numbersOf}
+use Rattle.laws.proofs.{_≤_, _-_, _*_, _+_, _≡_, refl, _∙_, arith, length, drop, length-set, sets, needs}
+use Rattle.table_bytes.specs.{numbersOf}
 use Rattle.table_bytes.proofs.Numbers.{number-stored, numbers-end}
-use borrow.Author.Needs.{needs}
-use Rattle.table_bytes.proofs.put_numbers.Statement.{statement}
 use Rattle.table_bytes.proofs.put_numbers.Tie as tie
 
 abbrev Inv-loop : tie.InvT-loop
@@ -45,26 +39,7 @@ loop-again c =
 returns : tie.Need-returns Inv-loop μ-loop
 returns c = numbers-end (c .before .before .args .bytes .now) (c .before .loop .i) (c .before .loop .out) (omega arith) ∙ c .before .loop .inv .2
 
-pub put-numbers-spec : {M : Type 1} → statement M
-put-numbers-spec =
-    tie.close
-    (tie.spec
-    Inv-loop
-    μ-loop
-    loop-holds
-    (λ c. search needs)
-    (λ c. search needs)
-    cast-low
-    (λ c. search needs)
-    (λ c. search needs)
-    (λ c. search needs)
-    cast-high
-    mul-out
-    add-out
-    (λ c. search needs)
-    (λ c. search needs)
-    (λ c. search needs)
-    (λ c. search needs)
-    loop-again
-    (λ c. search needs)
-    returns)
+pub put-numbers-spec : {M : Type 1} → Rattle.table_bytes.proofs.put_numbers.Statement.statement M
+put-numbers-spec = tie.close (tie.spec Inv-loop μ-loop loop-holds (λ c. search needs) (λ c. search needs) cast-low (λ c. search needs)
+    (λ c. search needs) (λ c. search needs) cast-high mul-out add-out (λ c. search needs) (λ c. search needs) (λ c. search needs) (λ c. search needs)
+    loop-again (λ c. search needs) returns)

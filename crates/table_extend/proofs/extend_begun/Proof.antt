@@ -1,11 +1,8 @@
 -- `table_extend::extend_begun` meets its contract: a clear verdict leaves room for the longer table, and a refusal leaves the buffer.
-use mathlib.Core.Path.{sym, _∙_}
-use lib.ListN.{length}
+use Rattle.laws.proofs.{sym, _∙_, length, needs}
 use Rattle.refusals.proofs.Answers.{when-turned, when-clear}
-use Rattle.table_extend.specs.Extension.{longer}
+use Rattle.table_extend.specs.{longer}
 use Rattle.table_extend.proofs.Longer.{longer-length, clear-extensible}
-use borrow.Author.Needs.{needs}
-use Rattle.table_extend.proofs.extend_begun.Statement.{statement}
 use Rattle.table_extend.proofs.extend_begun.Tie as tie
 
 put-longer-requires : tie.Need-put-longer-requires
@@ -28,15 +25,6 @@ returns-2 c =
     (sym (longer-length (a .table .now) (a .column) (a .cells .now) (e .in-range) (e .whole)))
     (c .before .before .put-longer .ensures)
 
-pub extend-begun-spec : {M : Type 1} → statement M
-extend-begun-spec =
-    tie.close
-    (tie.spec
-    (λ c κs. search needs)
-    (λ c. search needs)
-    (λ c. search needs)
-    put-longer-requires
-    (λ c. search needs)
-    returns
-    (λ c. search needs)
-    returns-2)
+pub extend-begun-spec : {M : Type 1} → Rattle.table_extend.proofs.extend_begun.Statement.statement M
+extend-begun-spec = tie.close (tie.spec (λ c κs. search needs) (λ c. search needs) (λ c. search needs) put-longer-requires (λ c. search needs) returns
+    (λ c. search needs) returns-2)

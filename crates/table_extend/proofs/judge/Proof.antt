@@ -1,8 +1,7 @@
 -- `table_extend::judge` meets its contract, case by case.
-use Rattle.refusals.specs.Refusals.{smallest, weighAll}
-use Rattle.table_extend.specs.Extension.{extensible}
-use borrow.Author.Needs.{needs}
-use Rattle.table_extend.proofs.judge.Statement.{statement}
+use Rattle.laws.proofs.{needs}
+use Rattle.refusals.specs.{smallest, weighAll}
+use Rattle.table_extend.specs.{extensible}
 use Rattle.table_extend.proofs.judge.Tie as tie
 
 returns : tie.Need-returns
@@ -21,20 +20,7 @@ returns c =
       c .before .before .before .before .before .before .before .before .before .has-columns .ensures,
     )
 
-pub judge-spec : {M : Type 1} → statement M
-judge-spec =
-    tie.close
-    (tie.spec
-    (λ c κs. search needs)
-    (λ c κs. search needs)
-    (λ c κs. search needs)
-    (λ c κs. search needs)
-    (λ c. search needs)
-    (λ c κs. search needs)
-    (λ c κs. search needs)
-    (λ c κs. search needs)
-    (λ c κs. search needs)
-    (λ c κs. search needs)
-    (λ c. search needs)
-    (λ c κs. search needs)
-    returns)
+pub judge-spec : {M : Type 1} → Rattle.table_extend.proofs.judge.Statement.statement M
+judge-spec = tie.close (tie.spec (λ c κs. search needs) (λ c κs. search needs) (λ c κs. search needs) (λ c κs. search needs) (λ c. search needs)
+    (λ c κs. search needs) (λ c κs. search needs) (λ c κs. search needs) (λ c κs. search needs) (λ c κs. search needs) (λ c. search needs)
+    (λ c κs. search needs) returns)

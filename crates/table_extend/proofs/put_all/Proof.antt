@@ -1,13 +1,7 @@
 -- `table_extend::put_all` meets its contract. The loop's invariant: storing what is left stores all.
-use Prim.Native.Nat.{_≤_, _-_, _+_}
-use mathlib.Core.Path.{_≡_, refl, _∙_}
-use native.Mathlib.Omega.{arith}
+use Rattle.laws.proofs.{_≤_, _-_, _+_, _≡_, refl, _∙_, arith, length, drop, length-set, sets, needs}
 use native.Mathlib.Nat.{add-zero}
-use lib.ListN.{length, drop, length-set}
-use lib.Seq.{sets}
 use Rattle.laws.proofs.Stores.{store-goes-on, store-ends}
-use borrow.Author.Needs.{needs}
-use Rattle.table_extend.proofs.put_all.Statement.{statement}
 use Rattle.table_extend.proofs.put_all.Tie as tie
 
 abbrev Inv-loop : tie.InvT-loop
@@ -38,20 +32,6 @@ returns c =
     let a = c .before .before .args in
     store-ends (a .numbers .now) (l .out) (a .at) (l .i) (omega arith) ∙ l .inv .2
 
-pub put-all-spec : {M : Type 1} → statement M
-put-all-spec =
-    tie.close
-    (tie.spec
-    Inv-loop
-    μ-loop
-    loop-holds
-    (λ c. search needs)
-    (λ c. search needs)
-    (λ c. search needs)
-    (λ c. search needs)
-    slice-write-out
-    (λ c. search needs)
-    (λ c. search needs)
-    loop-again
-    (λ c. search needs)
-    returns)
+pub put-all-spec : {M : Type 1} → Rattle.table_extend.proofs.put_all.Statement.statement M
+put-all-spec = tie.close (tie.spec Inv-loop μ-loop loop-holds (λ c. search needs) (λ c. search needs) (λ c. search needs) (λ c. search needs)
+    slice-write-out (λ c. search needs) (λ c. search needs) loop-again (λ c. search needs) returns)

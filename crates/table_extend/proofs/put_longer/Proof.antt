@@ -1,13 +1,6 @@
 -- `table_extend::put_longer` meets its contract: the stores of the table, the length and the cells make the longer table.
-use Prim.Native.Nat.{ℕ}
-use mathlib.Core.Path.{ap, _∙_}
-use mathlib.Core.List.{List}
-use native.Mathlib.Omega.{arith}
-use lib.ListN.{length, set, length-set}
-use lib.Seq.{sets}
+use Rattle.laws.proofs.{ℕ, ap, _∙_, List, arith, length, set, length-set, sets, needs}
 use Rattle.table_extend.proofs.Longer.{longer-stored}
-use borrow.Author.Needs.{needs}
-use Rattle.table_extend.proofs.put_longer.Statement.{statement}
 use Rattle.table_extend.proofs.put_longer.Tie as tie
 
 put-all-requires-2 : tie.Need-put-all-requires-2
@@ -24,14 +17,6 @@ returns c =
     ∙ ap (λ (l : List ℕ). sets (set l (a .column) (length (a .cells .now))) (length (a .table .now)) (a .cells .now)) (c .before .before .before .before .before .before .put-all .ensures)
     ∙ longer-stored (a .table .now) (a .column) (a .cells .now) (s .pre .0 .0) (s .pre .0 .1) (a .out .now) (s .pre .1 .1)
 
-pub put-longer-spec : {M : Type 1} → statement M
-put-longer-spec =
-    tie.close
-    (tie.spec
-    (λ c κs. search needs)
-    (λ c. search needs)
-    (λ c. search needs)
-    (λ c. search needs)
-    put-all-requires-2
-    same-length
-    returns)
+pub put-longer-spec : {M : Type 1} → Rattle.table_extend.proofs.put_longer.Statement.statement M
+put-longer-spec = tie.close (tie.spec (λ c κs. search needs) (λ c. search needs) (λ c. search needs) (λ c. search needs) put-all-requires-2
+    same-length returns)

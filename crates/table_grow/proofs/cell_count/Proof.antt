@@ -1,8 +1,6 @@
 -- `table_grow::cell_count` meets its contract: the fields behind the third.
-use native.Mathlib.Omega.{arith}
+use Rattle.laws.proofs.{arith, needs}
 use Rattle.table_grow.proofs.Cells.{cells-counted}
-use borrow.Author.Needs.{needs}
-use Rattle.table_grow.proofs.cell_count.Statement.{statement}
 use Rattle.table_grow.proofs.cell_count.Tie as tie
 
 returns : tie.Need-returns
@@ -11,5 +9,5 @@ returns c = omega (arith, c .if1 .taken, cells-counted (c .before .before .befor
 returns-2 : tie.Need-returns-2
 returns-2 c = cells-counted _ _ (c .before .scan .ensures)
 
-pub cell-count-spec : {M : Type 1} → statement M
+pub cell-count-spec : {M : Type 1} → Rattle.table_grow.proofs.cell_count.Statement.statement M
 cell-count-spec = tie.close (tie.spec (λ c κs. search needs) returns (λ c. search needs) returns-2)

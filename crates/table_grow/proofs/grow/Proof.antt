@@ -1,10 +1,7 @@
 -- `table_grow::grow` meets its contract: cells that do not fit are over 101, and those that do are the line's.
-use mathlib.Core.Path.{_∙_}
-use native.Mathlib.Omega.{arith}
+use Rattle.laws.proofs.{_∙_, arith, needs}
 use Rattle.table_grow.proofs.Cells.{cells-over, cells-within, cells-read}
 use Rattle.table_grow.proofs.Growth.{grown-over, grown-read}
-use borrow.Author.Needs.{needs}
-use Rattle.table_grow.proofs.grow.Statement.{statement}
 use Rattle.table_grow.proofs.grow.Tie as tie
 
 part-grow-by-end : tie.Need-part-grow-by-end
@@ -25,19 +22,6 @@ returns-2 c =
     (cells-read _ _ _ (cells .read-cells .ensures .0) _ _ (cells .read-cells .ensures .1) (cells .before .before .cell-count .ensures) (c .before .before .before .enum-told2 .given .1))
     (c .grow-by .ensures)
 
-pub grow-spec : {M : Type 1} → statement M
-grow-spec =
-    tie.close
-    (tie.spec
-    (λ c κs. search needs)
-    (λ c. search needs)
-    (λ c κs. search needs)
-    (λ c. search needs)
-    (λ c κs. search needs)
-    (λ c. search needs)
-    (λ c. search needs)
-    (λ c. search needs)
-    part-grow-by-end
-    (λ c κs. search needs)
-    returns
-    returns-2)
+pub grow-spec : {M : Type 1} → Rattle.table_grow.proofs.grow.Statement.statement M
+grow-spec = tie.close (tie.spec (λ c κs. search needs) (λ c. search needs) (λ c κs. search needs) (λ c. search needs) (λ c κs. search needs)
+    (λ c. search needs) (λ c. search needs) (λ c. search needs) part-grow-by-end (λ c κs. search needs) returns returns-2)

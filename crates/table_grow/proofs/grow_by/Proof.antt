@@ -1,8 +1,6 @@
 -- `table_grow::grow_by` meets its contract: the extension's refusal, else 33 where areas stand, else the longer table.
-use mathlib.Core.Path.{_∙_}
+use Rattle.laws.proofs.{_∙_, needs}
 use Rattle.table_grow.proofs.Growth.{grown-refused, grown-late, grown-clear}
-use borrow.Author.Needs.{needs}
-use Rattle.table_grow.proofs.grow_by.Statement.{statement}
 use Rattle.table_grow.proofs.grow_by.Tie as tie
 
 returns : tie.Need-returns
@@ -21,16 +19,6 @@ returns-3 c =
     let extended = told .before .before .before .extend .ensures in
     grown-clear _ _ _ _ (extended .0) _ _ (told .answer2 .given .1) (c .if1 .left) (extended .1)
 
-pub grow-by-spec : {M : Type 1} → statement M
-grow-by-spec =
-    tie.close
-    (tie.spec
-    (λ c. search needs)
-    (λ c κs. search needs)
-    (λ c. search needs)
-    (λ c κs. search needs)
-    (λ c. search needs)
-    (λ c κs. search needs)
-    returns
-    returns-2
-    returns-3)
+pub grow-by-spec : {M : Type 1} → Rattle.table_grow.proofs.grow_by.Statement.statement M
+grow-by-spec = tie.close (tie.spec (λ c. search needs) (λ c κs. search needs) (λ c. search needs) (λ c κs. search needs) (λ c. search needs)
+    (λ c κs. search needs) returns returns-2 returns-3)

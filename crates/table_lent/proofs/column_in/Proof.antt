@@ -1,13 +1,7 @@
 -- `table_lent::column_in` meets its contract: a number past nine has no cells, and any other column is a part.
-use Prim.Native.Nat.{ℕ}
-use mathlib.Core.Path.{_≡_, ap, _∙_}
-use native.Mathlib.Omega.{arith}
-use lib.ListN.{length, getD, take, drop}
-use lib.Seq.{take-all}
-use Rattle.table_lent.specs.Lent.{lentColumn}
+use Rattle.laws.proofs.{ℕ, _≡_, ap, _∙_, arith, length, getD, take, drop, take-all, needs}
+use Rattle.table_lent.specs.{lentColumn}
 use Rattle.table_lent.proofs.Lent.{past-lengths}
-use borrow.Author.Needs.{needs}
-use Rattle.table_lent.proofs.column_in.Statement.{statement}
 use Rattle.table_lent.proofs.column_in.Tie as tie
 
 returns : tie.Need-returns
@@ -24,20 +18,6 @@ returns-2 c =
     ∙ ap (λ (n : ℕ). take (getD (a .t2) (a .number) 0) (drop n (a .cells .now)))
     (simp (take-all 10 (a .t2) (omega arith)) at (c .before .cells-before .ensures))
 
-pub column-in-spec : {M : Type 1} → statement M
-column-in-spec =
-    tie.close
-    (tie.spec
-    (λ c. search needs)
-    (λ c. search needs)
-    (λ c. search needs)
-    returns
-    (λ c. search needs)
-    (λ c. search needs)
-    (λ c. search needs)
-    (λ c κs. search needs)
-    (λ c. search needs)
-    (λ c. search needs)
-    (λ c. search needs)
-    (λ c κs. search needs)
-    returns-2)
+pub column-in-spec : {M : Type 1} → Rattle.table_lent.proofs.column_in.Statement.statement M
+column-in-spec = tie.close (tie.spec (λ c. search needs) (λ c. search needs) (λ c. search needs) returns (λ c. search needs) (λ c. search needs)
+    (λ c. search needs) (λ c κs. search needs) (λ c. search needs) (λ c. search needs) (λ c. search needs) (λ c κs. search needs) returns-2)

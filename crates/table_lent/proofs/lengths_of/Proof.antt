@@ -1,15 +1,9 @@
 -- `table_lent::lengths_of` meets its contract. The loop's invariant: storing what is left of the ten lengths stores all.
-use Prim.Native.Nat.{_≤_, _-_}
-use mathlib.Core.Path.{_≡_, refl, _∙_}
-use native.Mathlib.Omega.{arith}
+use Rattle.laws.proofs.{_≤_, _-_, _≡_, refl, _∙_, arith, length, take, drop, length-set, length-take, sets, needs}
 use native.Mathlib.Nat.{zero-add}
-use lib.ListN.{length, take, drop, length-set, length-take}
-use lib.Seq.{sets}
 use Rattle.laws.proofs.Stores.{store-ends}
-use Rattle.table_lent.specs.Lent.{lentLengths}
+use Rattle.table_lent.specs.{lentLengths}
 use Rattle.table_lent.proofs.Lent.{no-lengths, lengths-stored, length-goes-on}
-use borrow.Author.Needs.{needs}
-use Rattle.table_lent.proofs.lengths_of.Statement.{statement}
 use Rattle.table_lent.proofs.lengths_of.Tie as tie
 
 abbrev Inv-loop : tie.InvT-loop
@@ -39,19 +33,6 @@ returns-2 c =
     let t = c .before .before .before .args .table .now in
     store-ends (take 10 t) (l .lengths) 0 (l .i) (simp length-take (omega arith)) ∙ (simp zero-add) ∙ l .inv .2
 
-pub lengths-of-spec : {M : Type 1} → statement M
-lengths-of-spec =
-    tie.close
-    (tie.spec
-    Inv-loop
-    μ-loop
-    returns
-    loop-holds
-    (λ c. search needs)
-    (λ c. search needs)
-    (λ c. search needs)
-    (λ c. search needs)
-    (λ c. search needs)
-    (λ c. search needs)
-    loop-again
-    returns-2)
+pub lengths-of-spec : {M : Type 1} → Rattle.table_lent.proofs.lengths_of.Statement.statement M
+lengths-of-spec = tie.close (tie.spec Inv-loop μ-loop returns loop-holds (λ c. search needs) (λ c. search needs) (λ c. search needs)
+    (λ c. search needs) (λ c. search needs) (λ c. search needs) loop-again returns-2)

@@ -1,13 +1,8 @@
 -- `table_parts::cells_before` meets its contract. The loop's invariant: the sum so far and the sum of what is left of the lengths make the whole.
-use mathlib.Core.Path.{_≡_}
-use Prim.Native.Nat.{_≤_, _-_, _+_, _*_}
-use native.Mathlib.Omega.{arith}
-use lib.ListN.{length, take, drop, length-take}
-use borrow.Author.Needs.{needs}
-use Rattle.laws.specs.Lists.{sumOf}
+use Rattle.laws.proofs.{_≡_, _≤_, _-_, _+_, _*_, arith, length, take, drop, length-take, needs}
+use Rattle.laws.specs.{sumOf}
 use Rattle.laws.proofs.Lists.{sum-ends}
 use Rattle.table_parts.proofs.Lengths.{cells-go-on}
-use Rattle.table_parts.proofs.cells_before.Statement.{statement}
 use Rattle.table_parts.proofs.cells_before.Tie as tie
 
 abbrev Inv-loop : tie.InvT-loop
@@ -60,20 +55,6 @@ returns-3 c =
     let a = c .before .before .args in
     omega (arith, sum-ends (take (a .number) (take 10 (a .table .now))) (c .before .loop .i) (simp length-take (omega arith)))
 
-pub cells-before-spec : {M : Type 1} → statement M
-cells-before-spec =
-    tie.close
-    (tie.spec
-    Inv-loop
-    μ-loop
-    loop-holds
-    returns
-    returns-2
-    mul-cells
-    shared-slice-read-cells
-    cast-cells
-    add-cells
-    add-i
-    loop-less
-    loop-again
-    returns-3)
+pub cells-before-spec : {M : Type 1} → Rattle.table_parts.proofs.cells_before.Statement.statement M
+cells-before-spec = tie.close (tie.spec Inv-loop μ-loop loop-holds returns returns-2 mul-cells shared-slice-read-cells cast-cells add-cells add-i
+    loop-less loop-again returns-3)

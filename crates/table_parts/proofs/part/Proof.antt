@@ -1,8 +1,7 @@
 -- `table_parts::part` meets its contract: the part lies behind the end, runs to the end, or lies within.
+use Rattle.laws.proofs.{needs}
 use native.Mathlib.Nat.{add-sub-cancel-left}
 use Rattle.table_parts.proofs.Parts.{part-past, part-to-end}
-use borrow.Author.Needs.{needs}
-use Rattle.table_parts.proofs.part.Statement.{statement}
 use Rattle.table_parts.proofs.part.Tie as tie
 
 returns : tie.Need-returns
@@ -14,23 +13,7 @@ returns-2 c = let a = c .before .before .before .args in part-to-end (a .numbers
 returns-3 : tie.Need-returns-3
 returns-3 c = simp add-sub-cancel-left
 
-pub part-spec : {M : Type 1} → statement M
-part-spec =
-    tie.close
-    (tie.spec
-    (λ c. search needs)
-    (λ c. search needs)
-    (λ c. search needs)
-    returns
-    (λ c. search needs)
-    (λ c. search needs)
-    (λ c. search needs)
-    (λ c. search needs)
-    (λ c. search needs)
-    returns-2
-    (λ c. search needs)
-    (λ c. search needs)
-    (λ c. search needs)
-    (λ c. search needs)
-    (λ c. search needs)
-    returns-3)
+pub part-spec : {M : Type 1} → Rattle.table_parts.proofs.part.Statement.statement M
+part-spec = tie.close (tie.spec (λ c. search needs) (λ c. search needs) (λ c. search needs) returns (λ c. search needs) (λ c. search needs)
+    (λ c. search needs) (λ c. search needs) (λ c. search needs) returns-2 (λ c. search needs) (λ c. search needs) (λ c. search needs)
+    (λ c. search needs) (λ c. search needs) returns-3)

@@ -1,8 +1,5 @@
 -- `text::put_number` meets its contract: the digits of a number are those of its hundredth and two more. The number itself falls at each call.
-use Prim.Native.Nat.{ℕ, _<_}
-use mathlib.Core.Path.{sym}
-use native.Mathlib.Omega.{arith}
-use borrow.Author.Needs.{needs}
+use Rattle.laws.proofs.{ℕ, _<_, sym, arith, needs}
 use borrow.Fn.Kinds.{In}
 use borrow.Fn.PlainCycle.{Measures, is, falls, and}
 use Rattle.text.proofs.Digits.{digits-small, digits-two, digits-two-more}

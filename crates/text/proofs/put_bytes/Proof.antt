@@ -1,14 +1,7 @@
 -- `text::put_bytes` meets its contract. The loop's invariant: the bytes before i are written.
-use Prim.Native.Nat.{_-_, _≤_}
-use mathlib.Core.Path.{refl}
-use native.Mathlib.Omega.{arith}
-use native.Mathlib.Numerals.{add-one}
-use borrow.Author.Needs.{needs}
-use lib.ListN.{length, take}
-use lib.Seq.{take-suc, take-all}
-use Rattle.text.specs.Writing.{Wrote}
+use Rattle.laws.proofs.{_-_, _≤_, refl, arith, add-one, needs, length, take, take-suc, take-all}
+use Rattle.text.specs.{Wrote}
 use Rattle.text.proofs.Writes.{wrote-then, wrote-as, wrote-length}
-use Rattle.text.proofs.put_bytes.Statement.{statement}
 use Rattle.text.proofs.put_bytes.Tie as tie
 
 abbrev Inv-loop : tie.InvT-loop
@@ -29,17 +22,6 @@ loop-again c =
 returns : tie.Need-returns Inv-loop μ-loop
 returns c = wrote-as (take-all _ _ (c .loop-test .left)) (c .before .loop .inv .1)
 
-pub put-bytes-spec : {M : Type 1} → statement M
-put-bytes-spec =
-    tie.close
-    (tie.spec
-    Inv-loop
-    μ-loop
-    loop-holds
-    (λ c. search needs)
-    (λ c κs. search needs)
-    (λ c. search needs)
-    (λ c. omega arith)
-    loop-again
-    (λ c. wrote-length (c .before .loop .inv .1))
-    returns)
+pub put-bytes-spec : {M : Type 1} → Rattle.text.proofs.put_bytes.Statement.statement M
+put-bytes-spec = tie.close (tie.spec Inv-loop μ-loop loop-holds (λ c. search needs) (λ c κs. search needs) (λ c. search needs) (λ c. omega arith)
+    loop-again (λ c. wrote-length (c .before .loop .inv .1)) returns)

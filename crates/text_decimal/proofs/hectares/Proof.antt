@@ -1,16 +1,8 @@
 -- `text_decimal::hectares` meets its contract, by how many bytes stand before the point.
-use mathlib.Core.Path.{_∙_}
-use native.Mathlib.Omega.{arith}
-use borrow.Author.Needs.{needs}
+use Rattle.laws.proofs.{_∙_, arith, needs}
 use Rattle.text_decimal.proofs.Laws.{seven-digits, six-digits}
-use Rattle.text_decimal.proofs.hectares.Statement.{statement}
 use Rattle.text_decimal.proofs.hectares.Tie as tie
 
-pub hectares-spec : {M : Type 1} → statement M
-hectares-spec =
-    tie.close
-    (tie.spec
-    (λ c κs. search needs)
-    (λ c. seven-digits _ (omega (arith, c .before .point .ensures)))
-    (λ c κs. search needs)
+pub hectares-spec : {M : Type 1} → Rattle.text_decimal.proofs.hectares.Statement.statement M
+hectares-spec = tie.close (tie.spec (λ c κs. search needs) (λ c. seven-digits _ (omega (arith, c .before .point .ensures))) (λ c κs. search needs)
     (λ c. c .decimal .ensures ∙ six-digits _ (omega (arith, c .before .before .point .ensures))))

@@ -1,12 +1,7 @@
 -- `text_decimal::point` meets its contract. The loop's invariant: the point, seen from i, is where it was at the start.
-use Prim.Native.Nat.{_+_, _-_, _≤_}
-use mathlib.Core.Path.{_≡_}
-use native.Mathlib.Omega.{arith}
-use borrow.Author.Needs.{needs}
-use lib.ListN.{length, drop}
-use Rattle.text_decimal.specs.Decimals.{wholes}
+use Rattle.laws.proofs.{_+_, _-_, _≤_, _≡_, arith, needs, length, drop}
+use Rattle.text_decimal.specs.{wholes}
 use Rattle.text_decimal.proofs.Laws.{point-later, point-here, point-none}
-use Rattle.text_decimal.proofs.point.Statement.{statement}
 use Rattle.text_decimal.proofs.point.Tie as tie
 
 abbrev Inv-loop : tie.InvT-loop
@@ -21,18 +16,7 @@ loop-again c =
     let later = point-later (l .before .args .bytes .now) (l .loop .i) (c .before .before .loop-test .taken) (c .if1 .left) in
     (omega arith, omega arith)
 
-pub point-spec : {M : Type 1} → statement M
-point-spec =
-    tie.close
-    (tie.spec
-    Inv-loop
-    μ-loop
-    (λ c. (omega arith, omega arith))
-    (λ c. search needs)
-    (λ c.
-    let l = c .before .before .before in
-    omega (arith, point-here (l .before .args .bytes .now) (l .loop .i) (c .before .before .loop-test .taken) (c .if1 .taken)))
-    (λ c. search needs)
-    (λ c. omega arith)
-    loop-again
-    (λ c. omega (arith, point-none (c .before .before .args .bytes .now) (c .before .loop .i) (c .loop-test .left))))
+pub point-spec : {M : Type 1} → Rattle.text_decimal.proofs.point.Statement.statement M
+point-spec = tie.close (tie.spec Inv-loop μ-loop (λ c. (omega arith, omega arith)) (λ c. search needs) (λ c. let l = c .before .before .before in
+    omega (arith, point-here (l .before .args .bytes .now) (l .loop .i) (c .before .before .loop-test .taken) (c .if1 .taken))) (λ c. search needs)
+    (λ c. omega arith) loop-again (λ c. omega (arith, point-none (c .before .before .args .bytes .now) (c .before .loop .i) (c .loop-test .left))))

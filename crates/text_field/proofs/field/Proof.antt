@@ -1,12 +1,8 @@
 -- `text_field::field` meets its contract, by the tests on the ends of the part.
-use Prim.Native.Nat.{_+_}
-use mathlib.Core.Path.{_≡_}
-use native.Mathlib.Omega.{arith}
-use borrow.Author.Needs.{needs}
-use lib.ListN.{length, getD, List·getD-eq-default}
-use Rattle.text_field.specs.Places.{part}
+use Rattle.laws.proofs.{_+_, _≡_, arith, needs, length, getD}
+use lib.ListN.{List·getD-eq-default}
+use Rattle.text_field.specs.{part}
 use Rattle.text_field.proofs.Laws.{out-of-order, past-line, in-line}
-use Rattle.text_field.proofs.field.Statement.{statement}
 use Rattle.text_field.proofs.field.Tie as tie
 
 returns : tie.Need-returns
@@ -29,30 +25,8 @@ returns-4 : tie.Need-returns-4
 unfolding part
 returns-4 c = in-line _ _ _ (c .before .before .if2 .left) (c .before .if3 .left)
 
-pub field-spec : {M : Type 1} → statement M
-field-spec =
-    tie.close
-    (tie.spec
-    (λ c. search needs)
-    (λ c. search needs)
-    (λ c. search needs)
-    returns
-    (λ c. search needs)
-    (λ c. search needs)
-    (λ c. search needs)
-    (λ c. search needs)
-    (λ c. search needs)
-    (λ c. search needs)
-    (λ c. search needs)
-    (λ c. search needs)
-    returns-2
-    (λ c. search needs)
-    (λ c. search needs)
-    (λ c. search needs)
-    (λ c. search needs)
-    returns-3
-    (λ c. search needs)
-    (λ c. search needs)
-    (λ c. search needs)
-    (λ c. search needs)
-    returns-4)
+pub field-spec : {M : Type 1} → Rattle.text_field.proofs.field.Statement.statement M
+field-spec = tie.close (tie.spec (λ c. search needs) (λ c. search needs) (λ c. search needs) returns (λ c. search needs) (λ c. search needs)
+    (λ c. search needs) (λ c. search needs) (λ c. search needs) (λ c. search needs) (λ c. search needs) (λ c. search needs) returns-2
+    (λ c. search needs) (λ c. search needs) (λ c. search needs) (λ c. search needs) returns-3 (λ c. search needs) (λ c. search needs)
+    (λ c. search needs) (λ c. search needs) returns-4)

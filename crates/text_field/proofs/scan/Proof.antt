@@ -1,17 +1,10 @@
 -- `text_field::scan` meets its contract. The line scan's invariant: what is noted so far, with the starts from here on, are all the starts, and so for the
 -- count; the field scan's: the end of the field, seen from i, is where it was at the field's start.
-use Prim.Native.Nat.{_+_, _-_, _≤_}
-use mathlib.Core.Path.{_≡_, refl, sym, _∙_}
-use mathlib.Core.Logic.{⊎-elim}
-use native.Mathlib.Omega.{arith}
-use borrow.Author.Needs.{needs}
-use lib.ListN.{length, drop, replicate}
-use lib.Seq.{sets}
-use Rattle.text.specs.Fields.{width, split}
+use Rattle.laws.proofs.{_+_, _-_, _≤_, _≡_, refl, sym, _∙_, ⊎-elim, arith, needs, length, drop, replicate, sets}
+use Rattle.text.specs.{width, split}
 use Rattle.text.proofs.Fields.{end-later, end-comma, end-last}
-use Rattle.text_field.specs.Places.{startsFrom, placesOf}
+use Rattle.text_field.specs.{startsFrom, placesOf}
 use Rattle.text_field.proofs.Laws.{count-next, count-last, note-next, note-last}
-use Rattle.text_field.proofs.scan.Statement.{statement}
 use Rattle.text_field.proofs.scan.Tie as tie
 
 abbrev Inv-field : tie.InvT-field
@@ -74,26 +67,10 @@ returns c =
     ∙ l .inv .4 in
     λ i. record { count = e i; starts = q i }
 
-pub scan-spec : {M : Type 1} → statement M
-scan-spec =
-    tie.close
-    (tie.spec
-    Inv-field
-    μ-field
-    Inv-line
-    μ-line
-    (λ c. (omega arith, omega arith, refl, omega arith, refl))
-    (λ c. (omega arith, omega arith, refl))
-    (λ c. search needs)
-    (λ c. search needs)
-    (λ c. omega arith)
-    field-again
-    (λ c. sym (c .before .before .before .line .inv .2))
-    (λ c κs. search needs)
-    (λ c. omega arith)
-    (λ c. omega (arith, ended (c .before .before .before .before)))
-    (λ c. omega (arith, ended (c .before .before .before .before .before)))
-    line-again
+pub scan-spec : {M : Type 1} → Rattle.text_field.proofs.scan.Statement.statement M
+scan-spec = tie.close (tie.spec Inv-field μ-field Inv-line μ-line (λ c. (omega arith, omega arith, refl, omega arith, refl))
+    (λ c. (omega arith, omega arith, refl)) (λ c. search needs) (λ c. search needs) (λ c. omega arith) field-again
+    (λ c. sym (c .before .before .before .line .inv .2)) (λ c κs. search needs) (λ c. omega arith)
+    (λ c. omega (arith, ended (c .before .before .before .before))) (λ c. omega (arith, ended (c .before .before .before .before .before))) line-again
     (λ c. sym (c .before .before .before .before .note .kept .0 ∙ c .before .before .before .before .before .before .before .before .line .inv .2))
-    (λ c κs. search needs)
-    returns)
+    (λ c κs. search needs) returns)

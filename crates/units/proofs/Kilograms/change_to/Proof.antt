@@ -1,7 +1,6 @@
 -- `units::Kilograms::change_to` meets its contract, by which stock is the larger.
-use borrow.Author.Needs.{needs}
-use borrow.Author.Tests.{le-leb, lt-leb}
-use Rattle.units.specs.Tonnes.{changeBetween}
+use Rattle.laws.proofs.{needs, le-leb, lt-leb}
+use Rattle.units.specs.{changeBetween}
 use Rattle.units.proofs.Kilograms.change_to.Statement.{statement}
 use Rattle.units.proofs.Kilograms.change_to.Tie as tie
 

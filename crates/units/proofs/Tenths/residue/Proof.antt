@@ -1,7 +1,6 @@
 -- `units::Tenths::residue` meets its contract: the products fit.
-use native.Mathlib.Omega.{arith}
-use borrow.Author.Needs.{needs}
-use Rattle.units.specs.Units.{residueOf}
+use Rattle.laws.proofs.{arith, needs}
+use Rattle.units.specs.{residueOf}
 use Rattle.units.proofs.Products.{product-fits, stock-fits}
 use Rattle.units.proofs.Tenths.residue.Statement.{statement}
 use Rattle.units.proofs.Tenths.residue.Tie as tie

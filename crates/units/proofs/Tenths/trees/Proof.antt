@@ -1,7 +1,6 @@
 -- `units::Tenths::trees` meets its contract: the products fit.
-use native.Mathlib.Omega.{arith}
-use borrow.Author.Needs.{needs}
-use Rattle.units.specs.Units.{treesOf}
+use Rattle.laws.proofs.{arith, needs}
+use Rattle.units.specs.{treesOf}
 use Rattle.units.proofs.Products.{product-fits}
 use Rattle.units.proofs.Tenths.trees.Statement.{statement}
 use Rattle.units.proofs.Tenths.trees.Tie as tie

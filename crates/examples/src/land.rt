@@ -1,0 +1,138 @@
+// The guide's examples of pre-1990 land and of the trees of a hectare (002, 4.5 and 5.2).
+ghost use mathlib.Core.Path.{_≡_};
+ghost use Rattle.land_trees.specs.{hectareOf};
+use crate::print::say;
+use crate::print::say_forest;
+use crate::print::say_number;
+use crate::print::say_refused;
+use forest::Forest;
+use forest::Region;
+use land_clearings::Clearing;
+use land_deforestation::Emissions;
+use land_groups::Group;
+use land_parcels::Parcel;
+use land_trees::Hectare;
+
+// The emissions of parcels, under a name for them.
+fn emitted(name: &[u8], parcels: [Parcel; 64], count: usize) {
+    say(name);
+    let emissions = land_deforestation::calculate(parcels, count);
+    match emissions {
+        Emissions::Tonnes(tonnes) => {
+            say_number(b": ", tonnes);
+            say(b" t");
+        }
+        Emissions::Turned(refusal) => say_refused(refusal),
+    }
+    say(b"\n");
+}
+
+// A parcel cleared in 2013, with no earlier clearing.
+fn stand(hectares: u32, forest: Forest, planted: u16) -> Parcel {
+    let none = Clearing {
+        forest: Forest::Bare,
+        planted: 0,
+        cleared: 0,
+    };
+    Parcel {
+        hectares,
+        forest,
+        planted,
+        cleared: 2013,
+        earlier: [none; 4],
+        count: 0,
+    }
+}
+
+// "88.34 hectares of 34-year-old Douglas fir"; and example a of 4.5.
+fn single_stands() {
+    say(b"\nPre-1990 land, a single stand:\n");
+    let single = stand(883400, Forest::DouglasFir, 1979);
+    emitted(b"88.34 ha of Douglas fir, 34 years", [single; 64], 1);
+    let hectare = stand(10000, Forest::DouglasFir, 1985);
+    emitted(b"1 ha of Douglas fir, 28 years", [hectare; 64], 1);
+}
+
+fn three_stands() {
+    say(b"\nThree stands:\n");
+    let mut stands = [stand(1001300, Forest::Radiata(Region::Auckland), 1985); 64];
+    stands[1] = stand(555200, Forest::DouglasFir, 1985);
+    stands[2] = stand(300400, Forest::ExoticHardwoods, 2002);
+    emitted(
+        b"100.13 ha of radiata P1 and 55.52 ha of Douglas fir, 28 years, and 30.04 ha of exotic hardwoods, 11 years",
+        stands,
+        3,
+    );
+}
+
+// A hectare of Douglas fir planted in 2008, when radiata of 40 years was cleared.
+fn replanted(cleared: u16) -> Parcel {
+    let radiata = Clearing {
+        forest: Forest::Radiata(Region::Auckland),
+        planted: 1968,
+        cleared: 2008,
+    };
+    Parcel {
+        hectares: 10000,
+        forest: Forest::DouglasFir,
+        planted: 2008,
+        cleared,
+        earlier: [radiata; 4],
+        count: 1,
+    }
+}
+
+// Examples b and c of 4.5.
+fn replanted_stands() {
+    say(b"\nDouglas fir after radiata P1 of 40 years:\n");
+    let young = replanted(2012);
+    emitted(b"1 ha, 4 years", [young; 64], 1);
+    let old = replanted(2017);
+    emitted(b"1 ha, 9 years", [old; 64], 1);
+}
+
+// Three tree groups, lent as a list.
+fn determined(groups: [Group; 3]) -> Hectare
+    ensures { λ r. ⌜ r ≡ hectareOf groups ⌝ }
+{
+    land_trees::determine(&groups)
+}
+
+// Two eucalypts of 12 and 9 years at 3 to 1, beside old kanuka.
+fn mixed_hectare() {
+    let nitens = Group {
+        species: 1,
+        forest: Forest::ExoticHardwoods,
+        age: 12,
+        basal_area: 3000,
+    };
+    let fraxinoides = Group {
+        species: 2,
+        forest: Forest::ExoticHardwoods,
+        age: 9,
+        basal_area: 1000,
+    };
+    let kanuka = Group {
+        species: 3,
+        forest: Forest::Indigenous,
+        age: 90,
+        basal_area: 500,
+    };
+    say(b"\nA mixed hectare:\nEucalypts of 12 and 9 years at 3 to 1, and old kanuka");
+    let hectare = determined([nitens, fraxinoides, kanuka]);
+    match hectare {
+        Hectare::Of { forest, age } => {
+            say_forest(b": ", forest);
+            say_number(b", age ", age as u64);
+        }
+        Hectare::Turned(refusal) => say_refused(refusal),
+    }
+    say(b"\n");
+}
+
+pub(crate) fn print_all() {
+    single_stands();
+    three_stands();
+    replanted_stands();
+    mixed_hectare();
+}

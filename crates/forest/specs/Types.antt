@@ -1,0 +1,67 @@
+-- "Forest types: P1 to P9 (Pinus radiata with its region ..), D Douglas fir, S exotic softwoods, H exotic hardwoods, N indigenous."
+-- "Bare land is type B ..". A letter or digit is its byte.
+use Rattle.laws.specs.{ℕ, _+_, cond, List, [], _∷_, eqb}
+use Rattle.forest.specs.declared.Region.{Region}
+use Rattle.forest.specs.declared.Forest.{Forest}
+use Rattle.forest.specs.declared.Named.{Named}
+use Rattle.forest.specs.declared.Letters.{Letters}
+
+-- "1 Auckland, 2 Bay of Plenty, 3 Canterbury/West Coast, 4 Gisborne, 5 Hawke's Bay/Southern North Island,
+-- 6 Nelson/Marlborough, 7 Otago, 8 Southland, 9 Waikato/Taupo"
+abbrev pub regionNumber : Region → ℕ
+regionNumber Region.Auckland = 1
+regionNumber Region.BayOfPlenty = 2
+regionNumber Region.CanterburyWestCoast = 3
+regionNumber Region.Gisborne = 4
+regionNumber Region.HawkesBaySouthernNorthIsland = 5
+regionNumber Region.NelsonMarlborough = 6
+regionNumber Region.Otago = 7
+regionNumber Region.Southland = 8
+regionNumber Region.WaikatoTaupo = 9
+
+abbrev pub digitOf : Region → ℕ
+digitOf region = 48 + regionNumber region
+
+unfoldable pub lettersOf : Forest → List ℕ
+lettersOf Forest.Bare = 66 ∷ []
+lettersOf (Forest.Radiata region) = 80 ∷ digitOf region ∷ []
+lettersOf Forest.DouglasFir = 68 ∷ []
+lettersOf Forest.ExoticSoftwoods = 83 ∷ []
+lettersOf Forest.ExoticHardwoods = 72 ∷ []
+lettersOf Forest.Indigenous = 78 ∷ []
+
+-- the letters in two bytes, the second 0 where there is one letter
+abbrev pub lettersWritten : Forest → Letters
+lettersWritten Forest.Bare = record { len = 1; bytes = 66 ∷ 0 ∷ [] }
+lettersWritten (Forest.Radiata region) = record { len = 2; bytes = 80 ∷ digitOf region ∷ [] }
+lettersWritten Forest.DouglasFir = record { len = 1; bytes = 68 ∷ 0 ∷ [] }
+lettersWritten Forest.ExoticSoftwoods = record { len = 1; bytes = 83 ∷ 0 ∷ [] }
+lettersWritten Forest.ExoticHardwoods = record { len = 1; bytes = 72 ∷ 0 ∷ [] }
+lettersWritten Forest.Indigenous = record { len = 1; bytes = 78 ∷ 0 ∷ [] }
+
+-- the type that stands beside a byte in a list
+unfoldable pub beside : ℕ → List (ℕ × Forest) → Named
+beside b [] = Named.Unlisted
+beside b (p ∷ ps) = cond (eqb b (p .0)) (Named.Listed (p .1)) (beside b ps)
+
+abbrev pub letters : List (ℕ × Forest)
+letters = (66, Forest.Bare) ∷ (68, Forest.DouglasFir) ∷ (83, Forest.ExoticSoftwoods) ∷ (72, Forest.ExoticHardwoods) ∷ (78, Forest.Indigenous) ∷ []
+
+abbrev pub regions : List (ℕ × Forest)
+regions =
+    (49, Forest.Radiata Region.Auckland) ∷ (50, Forest.Radiata Region.BayOfPlenty) ∷ (51, Forest.Radiata Region.CanterburyWestCoast) ∷ (52, Forest.Radiata Region.Gisborne)
+    ∷ (53, Forest.Radiata Region.HawkesBaySouthernNorthIsland) ∷ (54, Forest.Radiata Region.NelsonMarlborough) ∷ (55, Forest.Radiata Region.Otago)
+    ∷ (56, Forest.Radiata Region.Southland) ∷ (57, Forest.Radiata Region.WaikatoTaupo) ∷ []
+
+unfoldable pub letterNames : ℕ → Named
+letterNames b = beside b letters
+
+unfoldable pub regionNames : ℕ → Named
+regionNames b = beside b regions
+
+-- what bytes name: one letter, or P and a region's digit
+unfoldable pub named : List ℕ → Named
+named [] = Named.Unlisted
+named (b ∷ []) = letterNames b
+named (b ∷ d ∷ []) = cond (eqb b 80) (regionNames d) Named.Unlisted
+named (b ∷ d ∷ e ∷ more) = Named.Unlisted

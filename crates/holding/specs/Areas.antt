@@ -1,0 +1,94 @@
+-- "A holding has up to 16 accounting areas ever (records are kept), each with up to 16 sub-areas."
+use Rattle.laws.specs.{ℕ, Bool, true, false, List, take, replicate}
+use Rattle.units.specs.{Kilograms}
+use Rattle.forest.specs.{Forest}
+use Rattle.holding.specs.declared.Residue.{Residue}
+use Rattle.holding.specs.declared.Sub.{Sub}
+use Rattle.holding.specs.declared.Area.{Area}
+use Rattle.holding.specs.declared.Holding.{Holding}
+
+abbrev pub mostAreas : ℕ
+mostAreas = 16
+
+abbrev pub mostSubs : ℕ
+mostSubs = 16
+
+-- the areas and sub-areas that stand, in order of opening and adding
+abbrev pub areasOf : Holding → List Area
+areasOf holding = take (holding .count) (holding .areas)
+
+abbrev pub subsOf : Area → List Sub
+subsOf area = take (area .count) (area .subs)
+
+-- "no trees B,0; no residue B,0,0"
+abbrev pub noResidue : Residue
+noResidue = record { forest = Forest.Bare; age = 0; year = 0 }
+
+-- what a place holds where nothing stands
+abbrev pub emptySub : Sub
+emptySub = record { number = 0; tenths = record { 0 = 0 }; forest = Forest.Bare; planted = 0; residue = noResidue }
+
+-- an area of a number and an opening year, with no sub-areas, returns, stock or units: "Each area has an open year (at first its opening)
+-- and a latest year (greatest of its C and P entries, 0 if none)."
+abbrev pub openedArea : ℕ → ℕ → Area
+openedArea number opening = record {
+  number = number;
+  opening = opening;
+  «open_year» = opening;
+  latest = 0;
+  withdrawn = false;
+  returns = 0;
+  stock = record { 0 = 0 };
+  received = 0;
+  surrendered = 0;
+  count = 0;
+  subs = replicate mostSubs emptySub;
+}
+
+abbrev pub emptyArea : Area
+emptyArea = openedArea 0 0
+
+abbrev pub emptyHolding : Holding
+emptyHolding = record { count = 0; areas = replicate mostAreas emptyArea }
+
+-- ---- a change of a sub-area or of an area, the rest as it was
+
+abbrev pub withTrees : Forest → ℕ → Sub → Sub
+withTrees forest planted sub = record { number = sub .number; tenths = sub .tenths; forest = forest; planted = planted; residue = sub .residue }
+
+abbrev pub withResidue : Residue → Sub → Sub
+withResidue residue sub = record { number = sub .number; tenths = sub .tenths; forest = sub .forest; planted = sub .planted; residue = residue }
+
+-- all that changes in an area: its number and its opening stay
+abbrev pub changed : (openYear latest : ℕ) (withdrawn : Bool) (returns : ℕ) (stock : Kilograms) (received surrendered count : ℕ) (subs : List Sub) → Area → Area
+changed openYear latest withdrawn returns stock received surrendered count subs area = record {
+  number = area .number;
+  opening = area .opening;
+  «open_year» = openYear;
+  latest = latest;
+  withdrawn = withdrawn;
+  returns = returns;
+  stock = stock;
+  received = received;
+  surrendered = surrendered;
+  count = count;
+  subs = subs;
+}
+
+abbrev pub withSubs : ℕ → List Sub → Area → Area
+withSubs count subs a = changed (a .«open_year») (a .latest) (a .withdrawn) (a .returns) (a .stock) (a .received) (a .surrendered) count subs a
+
+abbrev pub withLatest : ℕ → Area → Area
+withLatest year a = changed (a .«open_year») year (a .withdrawn) (a .returns) (a .stock) (a .received) (a .surrendered) (a .count) (a .subs) a
+
+abbrev pub withStock : Kilograms → Area → Area
+withStock stock a = changed (a .«open_year») (a .latest) (a .withdrawn) (a .returns) stock (a .received) (a .surrendered) (a .count) (a .subs) a
+
+abbrev pub withUnits : ℕ → ℕ → Area → Area
+withUnits received surrendered a = changed (a .«open_year») (a .latest) (a .withdrawn) (a .returns) (a .stock) received surrendered (a .count) (a .subs) a
+
+abbrev pub withReturns : ℕ → ℕ → Area → Area
+withReturns openYear returns a = changed openYear (a .latest) (a .withdrawn) returns (a .stock) (a .received) (a .surrendered) (a .count) (a .subs) a
+
+abbrev pub asWithdrawn : Area → Area
+asWithdrawn a = changed (a .«open_year») (a .latest) true (a .returns) (a .stock) (a .received) (a .surrendered) (a .count) (a .subs) a
