@@ -72,10 +72,22 @@ printed run line =
     let outcome = lineTaken (run .own) (run .holding) line in
     printedFor (run .accepted + run .refused + 1) (outcome .verdict) outcome
 
--- from some line on: what each prints, and E
+-- the run of lines, from some run on: a fold of `next`
+unfoldable pub runFrom : Run → List (List ℕ) → Run
+runFrom run [] = run
+runFrom run (line ∷ lines) = runFrom (next run line) lines
+
+-- what the lines print, one after the other
+unfoldable pub printedFrom : Run → List (List ℕ) → List ℕ
+printedFrom run [] = []
+printedFrom run (line ∷ lines) = printed run line ++ printedFrom (next run line) lines
+
+-- what closes a listing: E
+abbrev pub closing : Run → List ℕ
+closing run = endText (run .accepted) (run .refused)
+
 unfoldable pub listFrom : Run → List (List ℕ) → List ℕ
-listFrom run [] = endText (run .accepted) (run .refused)
-listFrom run (line ∷ lines) = printed run line ++ listFrom (next run line) lines
+listFrom run lines = printedFrom run lines ++ closing (runFrom run lines)
 
 abbrev pub longestBook : ℕ
 longestBook = 65536

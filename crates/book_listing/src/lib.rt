@@ -1,29 +1,14 @@
-// The lines of a book, and what is put for each.
+// What is put for each line of a book.
 ghost use mathlib.Core.Path.{_≡_};
-ghost use Prim.Native.Nat.{_+_, _≤_};
-ghost use lib.ListN.{drop};
+ghost use Prim.Native.Nat.{_≤_};
 ghost use Rattle.book_print.specs.{reportWidth};
 ghost use Rattle.statement_field.specs.{Put};
-ghost use Rattle.book_listing.specs.{lineWidth, ifAccepted, printedFor};
+ghost use Rattle.book_listing.specs.{ifAccepted, printedFor};
 use refusals::Verdict;
 use step_outcome::Outcome;
 
 // The longest book, in bytes.
 pub const LONGEST_BOOK: usize = 65536;
-
-// Where the line that starts at a place ends: before its byte 10, or at the book's end.
-pub fn end_of(book: &[u8], start: usize) -> usize
-    ensures { λ r. ⌜ r ≡ start + lineWidth (drop start (now (book .entry))) ⌝ }
-{
-    let mut end = start;
-    while end < book.len() {
-        if book[end] == 10 {
-            return end;
-        }
-        end += 1;
-    }
-    end
-}
 
 // Puts what is printed for a line, by its number in the book; the answer is the place after what was put.
 pub fn put_line(out: &mut [u8], at: usize, number: u64, outcome: Outcome) -> usize

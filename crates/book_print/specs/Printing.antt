@@ -3,7 +3,7 @@
 use Rattle.laws.specs.{ℕ, cond, List, [], _∷_, eqb, _+_, _*_}
 use Rattle.units.specs.{Change}
 use Rattle.refusals.specs.{Refusal, numberOf}
-use Rattle.statement_format.specs.{startText, numberText, joined, startWidth, longWidth, shortWidth}
+use Rattle.statement_format.specs.{startText, numberText, joined, startWidth, longWidth, shortWidth, field}
 use Rattle.step_outcome.specs.{Report}
 
 -- the digits of a loss behind a minus sign; a change of 0 t has none
@@ -19,15 +19,8 @@ unfoldable pub reportText : Report → List ℕ
 reportText Report.Nothing = []
 reportText (Report.Return filed) =
     joined
-    (startText 82
-    ∷ numberText (filed .area) 44
-    ∷ numberText (filed .first) 44
-    ∷ numberText (filed .last) 44
-    ∷ changeText (filed .change)
-    ∷ numberText (filed .received) 44
-    ∷ numberText (filed .due) 44
-    ∷ numberText (filed .balance) 10
-    ∷ [])
+    (startText 82 ∷ numberText (filed .area) 44 ∷ numberText (filed .first) 44 ∷ numberText (filed .last) 44 ∷ changeText (filed .change)
+    ∷ numberText (filed .received) 44 ∷ numberText (filed .due) 44 ∷ numberText (filed .balance) 10 ∷ [])
 reportText (Report.Withdrawal area due) = joined (startText 87 ∷ numberText area 44 ∷ numberText due 10 ∷ [])
 
 -- a letter and two numbers
@@ -48,23 +41,13 @@ endText accepted refused = pairText 69 accepted refused
 abbrev pub changeWidth : ℕ
 changeWidth = 1 + longWidth
 
--- R, the area and two years; three numbers of units
-abbrev pub filedYearsWidth : ℕ
-filedYearsWidth = startWidth + 3 * shortWidth
-
-abbrev pub unitsWidth : ℕ
-unitsWidth = 3 * longWidth
-
 -- what is printed for an accepted line: a return's is the longest
 abbrev pub reportWidth : ℕ
-reportWidth = filedYearsWidth + changeWidth + unitsWidth
+reportWidth = startWidth + 3 * shortWidth + changeWidth + 3 * longWidth
 
 -- a letter and two numbers, and where the second is a refusal's, of two digits
 abbrev pub pairWidth : ℕ
 pairWidth = startWidth + 2 * longWidth
 
-abbrev pub numberWidth : ℕ
-numberWidth = 3
-
 abbrev pub refusalWidth : ℕ
-refusalWidth = startWidth + longWidth + numberWidth
+refusalWidth = startWidth + longWidth + field 2

@@ -1,8 +1,9 @@
 // What is printed of a line and of a book, put into a lent buffer at any place.
 ghost use mathlib.Core.List.{_∷_, []};
-ghost use Rattle.statement_format.specs.{startText, numberText, joined};
+ghost use Prim.Native.Nat.{_+_, _*_};
+ghost use Rattle.statement_format.specs.{startText, numberText, joined, startWidth, shortWidth, longWidth};
 ghost use Rattle.statement_field.specs.{Put};
-ghost use Rattle.book_print.specs.{lossText, changeText, reportText, pairText, refusalText, endText, changeWidth, filedYearsWidth, unitsWidth, reportWidth, pairWidth, refusalWidth};
+ghost use Rattle.book_print.specs.{lossText, changeText, reportText, pairText, refusalText, endText, changeWidth, reportWidth, pairWidth, refusalWidth};
 use refusals::Refusal;
 use statement_field::LONG_WIDTH;
 use statement_field::SHORT_WIDTH;
@@ -35,7 +36,7 @@ fn put_change(out: &mut [u8], at: usize, change: Change) -> usize
 
 // R, the area and the first and last year of a return.
 fn put_years(out: &mut [u8], at: usize, area: u16, first: u16, last: u16) -> usize
-    ensures { λ r. ⌜ Put filedYearsWidth (now (out .entry)) at (joined (startText 82 ∷ numberText area 44 ∷ numberText first 44 ∷ numberText last 44 ∷ [])) (now (out .exit)) r ⌝ }
+    ensures { λ r. ⌜ Put (startWidth + 3 * shortWidth) (now (out .entry)) at (joined (startText 82 ∷ numberText area 44 ∷ numberText first 44 ∷ numberText last 44 ∷ [])) (now (out .exit)) r ⌝ }
 {
     let next = statement_field::put_start(out, at, 82);
     let next = statement_field::put_short(out, next, area, 44);
@@ -45,7 +46,7 @@ fn put_years(out: &mut [u8], at: usize, area: u16, first: u16, last: u16) -> usi
 
 // The units of a return, which end its line.
 fn put_units(out: &mut [u8], at: usize, received: u64, due: u64, balance: u64) -> usize
-    ensures { λ r. ⌜ Put unitsWidth (now (out .entry)) at (joined (numberText received 44 ∷ numberText due 44 ∷ numberText balance 10 ∷ [])) (now (out .exit)) r ⌝ }
+    ensures { λ r. ⌜ Put (3 * longWidth) (now (out .entry)) at (joined (numberText received 44 ∷ numberText due 44 ∷ numberText balance 10 ∷ [])) (now (out .exit)) r ⌝ }
 {
     let next = statement_field::put_field(out, at, received, 44);
     let next = statement_field::put_field(out, next, due, 44);

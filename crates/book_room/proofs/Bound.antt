@@ -9,7 +9,7 @@ use Rattle.step_outcome.specs.{Outcome}
 use Rattle.book_print.specs.{reportText, refusalText, endText}
 use Rattle.book_print.proofs.Lengths.{refusal-few, end-few}
 use Rattle.book_listing.specs.{linesOf, lineTaken, Run, start, next, printedFor, printed, listFrom, longestBook, listingOf}
-use Rattle.book_listing.proofs.Folding.{start-none, next-counts, listing-over, listing-lines}
+use Rattle.book_listing.proofs.Folding.{start-none, next-counts, list-line, list-none, listing-over, listing-lines}
 use Rattle.book_room.specs.{mostForByte, mostForEnd, roomForAny}
 use Rattle.book_room.proofs.Runs.{line-length, RunKept, start-kept, next-kept}
 
@@ -31,13 +31,13 @@ printed-length run line k h =
 
 from-length : (run : Run) (lines : List (List ℕ)) → RunKept run → run .accepted + run .refused + length lines ≤ longestBook
     → length (listFrom run lines) ≤ mostForByte * sumBy weight lines + mostForEnd
-unfolding listFrom sumBy
-from-length run [] k h = omega (arith, end-few 4 4 (run .accepted) (run .refused) (omega arith) (omega arith))
+unfolding sumBy
+from-length run [] k h = omega (arith, ap length (list-none run), end-few 4 4 (run .accepted) (run .refused) (omega arith) (omega arith))
 from-length run (line ∷ lines) k h =
     let counts = next-counts run line in
     let first = printed-length run line k (omega arith) in
     let rest = from-length (next run line) lines (next-kept run line k) (omega arith) in
-    simp length-append (omega arith)
+    omega (arith, ap length (list-line run line lines), length-append (printed run line) (listFrom (next run line) lines))
 
 -- a book has as many bytes as its lines and their ends, but that the last may lack its end
 lines-weigh : (book : List ℕ) → sumBy weight (linesOf book) ≤ length book + 1

@@ -1,19 +1,19 @@
 -- How long the lines of R and W are at most, by the digits of their numbers.
 use Rattle.laws.proofs.{ℕ, _+_, _≤_, _<_, Bool, true, false, cond, _∷_, arith, eqb, length, length-append}
-use Rattle.book_room.specs.{tonnesWidth, returnWidth, withdrawalWidth}
+use Rattle.book_room.specs.{returnWidth, withdrawalWidth}
 use Rattle.units.specs.{Change}
-use Rattle.statement_format.specs.{startText, numberText, joined}
+use Rattle.statement_format.specs.{startText, numberText, joined, field}
 use Rattle.step_outcome.specs.{Filed, Report}
 use Rattle.book_print.specs.{lossText, changeText, reportText}
 use Rattle.statement_field.proofs.Puts.{number-few}
 use Rattle.theorem_keeping.proofs.Stocks.{sizeOf}
 
-change-length : (change : Change) → sizeOf change < 1000000000 → length (changeText change) ≤ 1 + tonnesWidth
+change-length : (change : Change) → sizeOf change < 1000000000 → length (changeText change) ≤ 1 + field 9
 unfolding changeText lossText
 change-length (Change.Gain t) h = omega (arith, number-few 8 t 44 h)
 change-length (Change.Loss t) h = go (eqb t 0)
   where
-    go : (b : Bool) → length (cond b (numberText 0 44) (45 ∷ numberText t 44)) ≤ 1 + tonnesWidth
+    go : (b : Bool) → length (cond b (numberText 0 44) (45 ∷ numberText t 44)) ≤ 1 + field 9
     go true = omega (arith, number-few 0 0 44 (omega arith))
     go false = omega (arith, number-few 8 t 44 h)
 

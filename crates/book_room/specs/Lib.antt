@@ -1,2 +1,2 @@
 pub mod Room
-pub use Room.{areaNumberWidth, yearWidth, tonnesWidth, balanceWidth, lineNumberWidth, returnWidth, withdrawalWidth, mostForByte, mostForEnd, roomForAny}
+pub use Room.{returnWidth, withdrawalWidth, mostForByte, mostForEnd, roomForAny}

@@ -4,10 +4,11 @@ ghost use Prim.Native.Nat.{_≤_};
 ghost use lib.ListN.{length, take};
 ghost use Rattle.table.specs.{longestTable};
 ghost use Rattle.text.specs.{Wrote};
-ghost use Rattle.book_listing.specs.{linesOf, start, listFrom, listingOf, longestBook};
-ghost use Rattle.book_run.specs.{tableBy, Fronts};
+ghost use Rattle.book_listing.specs.{linesOf, listingOf, longestBook};
+ghost use Rattle.book_run.specs.{tableBy, Fronts, RunOf};
 use book_listing::LONGEST_BOOK;
 use holding::Found;
+use holding::Holding;
 use holding::MOST_AREAS;
 use holding_look::Looked;
 use refusals::Refusal;
@@ -37,10 +38,18 @@ fn extend(
     }
 }
 
-// Puts the listing of a book that is not too long; the answer, here and below, is the place after what was put.
-fn put_lines(book: &[u8], out: &mut [u8]) -> usize
+// What the run of a book's lines comes to: the place after what was put, the holding, and how many lines were accepted and refused.
+struct Ran {
+    at: usize,
+    holding: Holding,
+    accepted: u64,
+    refused: u64,
+}
+
+// Runs the lines of a book that is not too long, and puts what each prints.
+fn put_lines(book: &[u8], out: &mut [u8]) -> Ran
     requires { ⌜ length (now book) ≤ longestBook ⌝ }
-    ensures { λ r. ⌜ Wrote (now (out .entry)) 0 (listFrom start (linesOf (now (book .entry)))) (now (out .exit)) r ⌝ }
+    ensures { λ r. ⌜ RunOf (linesOf (now (book .entry))) (now (out .entry)) (now (out .exit)) r ⌝ }
 {
     let default = schedules::schedule_six();
     let mut holding = holding::empty_holding();
@@ -51,7 +60,7 @@ fn put_lines(book: &[u8], out: &mut [u8]) -> usize
     let mut at: usize = 0;
     let mut i: usize = 0;
     while i < book.len() {
-        let end = book_listing::end_of(book, i);
+        let end = text::end_of(book, i, b'\n');
         let parsed = line::parse(&book[i..end]);
         let found = book_take::find(holding, parsed);
         let mut named = holding::empty_area();
@@ -84,10 +93,15 @@ fn put_lines(book: &[u8], out: &mut [u8]) -> usize
         }
         i = end + 1;
     }
-    book_print::put_end(out, at, accepted, refused)
+    Ran {
+        at,
+        holding,
+        accepted,
+        refused,
+    }
 }
 
-// Puts the listing of any book.
+// Puts the listing of any book; the answer is the place after it.
 pub fn put_listing(book: &[u8], out: &mut [u8]) -> usize
     ensures { λ r. ⌜ Wrote (now (out .entry)) 0 (listingOf (now (book .entry))) (now (out .exit)) r ⌝ }
 {
@@ -95,5 +109,6 @@ pub fn put_listing(book: &[u8], out: &mut [u8]) -> usize
         let next = book_print::put_refusal(out, 0, 0, Refusal::Form);
         return book_print::put_end(out, next, 0, 1);
     }
-    put_lines(book, out)
+    let ran = put_lines(book, out);
+    book_print::put_end(out, ran.at, ran.accepted, ran.refused)
 }

@@ -12,6 +12,7 @@ use Rattle.statement_format.specs.{statementOf}
 use Rattle.table_grow.specs.{growable, longerBy}
 use Rattle.book_print.specs.{reportText, refusalText, pairText}
 use Rattle.book_listing.specs.{entryTaken, parsedTaken, lineTaken, parsedTable, tableAfter, Run, next, printedFor, printed, listFrom, start}
+use Rattle.book_listing.proofs.Folding.{list-line, list-none}
 use Rattle.theorem_keeping.specs.{Kept}
 use Rattle.theorem_keeping.proofs.Keeping.{empty-kept}
 use Rattle.call_output.specs.{tableBytes}
@@ -196,12 +197,13 @@ Enough most = (statement table line : List ℕ) → callVerdict statement table 
 
 calls-follow : (most : ℕ) → Enough most → (lines : List (List ℕ)) (caller : Caller) (run : Run) → Follows most caller run
     → callsFrom caller lines ≡ listFrom run lines
-unfolding callsFrom listFrom
-calls-follow most enough [] caller run f = rw (f .accepted, f .refused)
+unfolding callsFrom
+calls-follow most enough [] caller run f = rw (f .accepted, f .refused) (sym (list-none run))
 calls-follow most enough (line ∷ lines) caller run f =
     let m = line-matches most caller run f line (enough (caller .statement) (caller .table) line) in
     ap (λ (t : List ℕ). t ++ callsFrom (afterCall caller line) lines) (m .prints)
     ∙ ap (λ (t : List ℕ). printed run line ++ t) (calls-follow most enough lines (afterCall caller line) (next run line) (m .follows))
+    ∙ sym (list-line run line lines)
 
 pub calls-list-within : (most : ℕ) → Enough most → (out : List ℕ) → most ≤ length out → (lines : List (List ℕ)) → callsFrom (begin out) lines ≡ listFrom start lines
 unfolding begin start tableBytes isTable

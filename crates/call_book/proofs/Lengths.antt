@@ -1,9 +1,10 @@
 -- How long a statement is whose holding is kept: each number has as many digits as its range, and sixteen lines at most follow one another.
-use Rattle.laws.proofs.{ℕ, _*_, _≤_, Bool, true, false, List, [], _∷_, arith, length, length-append, length-take}
+use Rattle.laws.proofs.{ℕ, _+_, _*_, _≤_, Bool, true, false, List, [], _∷_, arith, length, length-append, length-take}
 use native.Mathlib.Nat.{mul-suc}
 use Rattle.forest.specs.{Forest, lettersOf}
 use Rattle.holding.specs.{Sub, Area, Holding, mostAreas, mostSubs, areasOf, subsOf}
-use Rattle.statement_format.specs.{startText, numberText, typeText, joined, texts, residueText, subText, flag, yearsText, amountsText, areaText, statementOf, typeWidth, yearsWidth, flagWidth, carriedSubWidth, carriedAmountsWidth, carriedAreaWidth, carriedWidth}
+use Rattle.statement_format.specs.{startText, numberText, typeText, joined, texts, residueText, subText, flag, yearsText, amountsText, areaText, statementOf, typeWidth, yearsWidth, carriedSubWidth, carriedAreaWidth, carriedWidth, field, shortWidth}
+use Rattle.statement_format.proofs.Residues.{sub-text}
 use Rattle.statement_field.proofs.Puts.{number-few}
 use Rattle.theorem_keeping.specs.{Each, Kept}
 use Rattle.theorem_round_trips.proofs.Fitting.{SubFits, AreaFits, holding-fits}
@@ -25,9 +26,9 @@ texts-few P text most few (a ∷ l) each =
     simp length-append (omega (arith, few a (each .0), texts-few P text most few l (each .1), mul-suc most (length l)))
 
 sub-few : (sub : Sub) → SubFits sub → length (subText sub) ≤ carriedSubWidth
-unfolding subText residueText joined startText
+unfolding residueText joined startText
 sub-few sub fits =
-    simp length-append
+    simp (sub-text, length-append)
     (omega (
       arith,
       number-few 2 (sub .number) 44 (omega (arith, fits .number)),
@@ -51,11 +52,11 @@ years-few area fits =
       number-few 4 (area .latest) 44 (omega (arith, fits .latest)),
     ))
 
-flag-few : (b : Bool) → length (numberText (flag b) 44) ≤ flagWidth
+flag-few : (b : Bool) → length (numberText (flag b) 44) ≤ field 1
 flag-few true = omega (arith, number-few 0 1 44 (omega arith))
 flag-few false = omega (arith, number-few 0 0 44 (omega arith))
 
-amounts-few : (area : Area) → AreaFits area → length (amountsText area) ≤ carriedAmountsWidth
+amounts-few : (area : Area) → AreaFits area → length (amountsText area) ≤ field 1 + shortWidth + 3 * field 15
 unfolding amountsText joined
 amounts-few area fits =
     simp length-append

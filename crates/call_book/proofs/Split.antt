@@ -7,6 +7,7 @@ use Rattle.text.specs.{digits}
 use Rattle.forest.specs.{Forest}
 use Rattle.holding.specs.{Sub, Area, Holding, areasOf, subsOf}
 use Rattle.statement_format.specs.{startText, numberText, typeText, joined, texts, residueText, subText, yearsText, amountsText, areaText, statementOf}
+use Rattle.statement_format.proofs.Residues.{sub-text}
 use Rattle.step_outcome.specs.{Report}
 use Rattle.book_print.specs.{reportText}
 use Rattle.theorem_round_trips.proofs.Widths.{High, high-digits, high-letters}
@@ -62,16 +63,17 @@ passed-texts text each [] = passed-none true
 passed-texts text each (a ∷ l) = passed-then (each a) (passed-texts text each l)
 
 passed-sub : (sub : Sub) → Passed true true (subText sub)
-unfolding subText residueText joined
+unfolding residueText joined
 passed-sub sub =
-    passed-then (passed-start 83 refl refl)
+    rw sub-text
+    (passed-then (passed-start 83 refl refl)
     (passed-then (passed-number _ 44)
     (passed-then (passed-number _ 44)
     (passed-then (passed-type _ 44)
     (passed-then (passed-number _ 44)
     (passed-then
     (passed-then (passed-type _ 44) (passed-then (passed-number _ 44) (passed-then (passed-number _ 10) (passed-none true))))
-    (passed-none true))))))
+    (passed-none true)))))))
 
 passed-area : (area : Area) → Passed true true (areaText area)
 unfolding areaText yearsText amountsText joined

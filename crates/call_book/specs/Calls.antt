@@ -1,8 +1,7 @@
 -- A book run line by line through the call, as the field unit's own program runs it: it keeps a statement, a table and one output buffer, and
 -- lends them to every call.
-use Rattle.laws.specs.{ℕ, suc, _+_, Bool, true, false, cond, _&&_, _||_, List, [], _∷_, _++_, eqb, length, getD, take, drop}
+use Rattle.laws.specs.{ℕ, suc, _+_, Bool, true, false, cond, _&&_, _||_, List, [], _∷_, _++_, eqb, length, getD, take, drop, ℤ, pos, negsuc}
 use Rattle.book_room.specs.{returnWidth}
-use lib.IntN.{ℤ, pos, negsuc}
 use Rattle.holding.specs.{emptyHolding}
 use Rattle.statement_format.specs.{statementOf, carriedWidth}
 use Rattle.book_print.specs.{pairText, endText}

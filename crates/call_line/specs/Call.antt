@@ -1,6 +1,5 @@
 -- "The field unit's own program, written in C, calls the engine with a statement, a table, a line and an output buffer."
-use Rattle.laws.specs.{ℕ, cond, not, List, [], ltb, leb, length}
-use lib.IntN.{ℤ, pos, negℤ}
+use Rattle.laws.specs.{ℕ, cond, not, List, [], ltb, leb, length, ℤ, pos, negℤ}
 use Rattle.refusals.specs.{Verdict, numberOf, weighed, bufferAfter, Refusal}
 use Rattle.table.specs.{isTable, longestTable}
 use Rattle.table_bytes.specs.{numbersOf, decodable}

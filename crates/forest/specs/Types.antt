@@ -1,6 +1,6 @@
 -- "Forest types: P1 to P9 (Pinus radiata with its region ..), D Douglas fir, S exotic softwoods, H exotic hardwoods, N indigenous."
 -- "Bare land is type B ..". A letter or digit is its byte.
-use Rattle.laws.specs.{ℕ, _+_, cond, List, [], _∷_, eqb}
+use Rattle.laws.specs.{ℕ, _+_, cond, List, [], _∷_, eqb, Bool}
 use Rattle.forest.specs.declared.Region.{Region}
 use Rattle.forest.specs.declared.Forest.{Forest}
 use Rattle.forest.specs.declared.Named.{Named}
@@ -65,3 +65,16 @@ named [] = Named.Unlisted
 named (b ∷ []) = letterNames b
 named (b ∷ d ∷ []) = cond (eqb b 80) (regionNames d) Named.Unlisted
 named (b ∷ d ∷ e ∷ more) = Named.Unlisted
+
+-- P1 to P9, D, S, H, N, counted from 1; bare land has no column
+abbrev pub orderOf : Forest → ℕ
+orderOf Forest.Bare = 0
+orderOf (Forest.Radiata region) = regionNumber region
+orderOf Forest.DouglasFir = 10
+orderOf Forest.ExoticSoftwoods = 11
+orderOf Forest.ExoticHardwoods = 12
+orderOf Forest.Indigenous = 13
+
+-- two types are the same where they stand at the same place, a region's radiata being a type of its own
+abbrev pub sameType : Forest → Forest → Bool
+sameType a b = eqb (orderOf a) (orderOf b)

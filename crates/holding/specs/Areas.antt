@@ -1,11 +1,13 @@
 -- "A holding has up to 16 accounting areas ever (records are kept), each with up to 16 sub-areas."
-use Rattle.laws.specs.{ℕ, Bool, true, false, List, take, replicate}
+use Rattle.laws.specs.{ℕ, Bool, true, false, cond, _&&_, List, [], _∷_, eqb, take, replicate, _+_}
 use Rattle.units.specs.{Kilograms}
 use Rattle.forest.specs.{Forest}
+use Rattle.ranges.specs.{isBare}
 use Rattle.holding.specs.declared.Residue.{Residue}
 use Rattle.holding.specs.declared.Sub.{Sub}
 use Rattle.holding.specs.declared.Area.{Area}
 use Rattle.holding.specs.declared.Holding.{Holding}
+use Rattle.holding.specs.declared.Found.{Found}
 
 abbrev pub mostAreas : ℕ
 mostAreas = 16
@@ -23,6 +25,17 @@ subsOf area = take (area .count) (area .subs)
 -- "no trees B,0; no residue B,0,0"
 abbrev pub noResidue : Residue
 noResidue = record { forest = Forest.Bare; age = 0; year = 0 }
+
+-- whether a residue is that: bare type, age 0 and year 0
+abbrev pub isNone : Residue → Bool
+isNone residue = isBare (residue .forest) && (eqb (residue .age) 0 && eqb (residue .year) 0)
+
+-- "residue of the latest clearing": none or one
+unfoldable pub residuesIn : Residue → List Residue
+residuesIn residue = cond (isNone residue) [] (residue ∷ [])
+
+abbrev pub residuesOf : Sub → List Residue
+residuesOf sub = residuesIn (sub .residue)
 
 -- what a place holds where nothing stands
 abbrev pub emptySub : Sub
@@ -92,3 +105,14 @@ withReturns openYear returns a = changed openYear (a .latest) (a .withdrawn) ret
 
 abbrev pub asWithdrawn : Area → Area
 asWithdrawn a = changed (a .«open_year») (a .latest) true (a .returns) (a .stock) (a .received) (a .surrendered) (a .count) (a .subs) a
+
+-- the place of the first in a list whose number it is, the list beginning at the place i
+unfoldable pub placeFrom : {A : Type 0} → (A → ℕ) → ℕ → ℕ → List A → Found
+placeFrom numberOf n i [] = Found.Nowhere
+placeFrom numberOf n i (a ∷ l) = cond (eqb (numberOf a) n) (Found.At i) (placeFrom numberOf n (i + 1) l)
+
+unfoldable pub findArea : Holding → ℕ → Found
+findArea holding n = placeFrom (λ (a : Area). a .number) n 0 (areasOf holding)
+
+unfoldable pub findSub : Area → ℕ → Found
+findSub area n = placeFrom (λ (s : Sub). s .number) n 0 (subsOf area)

@@ -1,9 +1,8 @@
 pub mod Areas
-pub mod Find
 pub use declared.Area.{Area}
 pub use declared.Found.{Found}
 pub use declared.Holding.{Holding}
 pub use declared.Residue.{Residue}
 pub use declared.Sub.{Sub}
-pub use Areas.{mostAreas, mostSubs, areasOf, subsOf, noResidue, emptySub, openedArea, emptyArea, emptyHolding, withTrees, withResidue, changed, withSubs, withLatest, withStock, withUnits, withReturns, asWithdrawn}
-unfoldable pub use Find.{placeFrom, findArea, findSub}
+pub use Areas.{mostAreas, mostSubs, areasOf, subsOf, noResidue, isNone, residuesOf, emptySub, openedArea, emptyArea, emptyHolding, withTrees, withResidue, changed, withSubs, withLatest, withStock, withUnits, withReturns, asWithdrawn}
+unfoldable pub use Areas.{residuesIn, placeFrom, findArea, findSub}

@@ -1,41 +1,28 @@
--- The laws of a line: its body, the scan for an end, its letter, and what refuses it before its letter is looked at.
-use Rattle.laws.proofs.{ℕ, _+_, _-_, _≤_, _<_, _≡_, refl, sym, ap, _∙_, Bool, true, false, List, [], _∷_, arith, add-one, eq-eqb, ne-eqb, lt-ltb, le-ltb, length, getD, take, drop, drop-of-length-le, drop-cons, take-all}
-use Rattle.text.specs.{split}
+-- The laws of a line: its body, its letter, and what refuses it before its letter is looked at.
+use Rattle.laws.proofs.{ℕ, _-_, _≤_, _<_, _≡_, refl, sym, ap, _∙_, Bool, true, false, List, [], _∷_, arith, eq-eqb, ne-eqb, lt-ltb, le-ltb, length, getD, take, drop, take-all}
+use Rattle.text.specs.{comma, lineEnd, holds, split}
 use Rattle.refusals.specs.{Verdict, Case, _⇒_, weighed, weighAll, smallest, Refusal}
 use Rattle.refusals.proofs.Smallest.{turned-stands}
 use Rattle.line_entry.specs.{Parsed, parsed, parsedBy}
-use Rattle.line.specs.{bodyOf, holdsEnd, longest, letterOf, noRule, ruleOf, lineRule, conditions, entryOf}
+use Rattle.line.specs.{bodyOf, longest, letterOf, noRule, ruleOf, lineRule, conditions, entryOf}
 
 module _ (line : List ℕ) (n : ℕ) (e : n ≡ length line) where
-  pub body-open : (getD line (n - 1) 0 ≡ 10 → ⊥) → take (n - 0) (drop 0 line) ≡ bodyOf line
+  pub body-open : (getD line (n - 1) 0 ≡ lineEnd → ⊥) → take (n - 0) (drop 0 line) ≡ bodyOf line
   unfolding bodyOf
   body-open h =
       let q : n - 1 ≡ length line - 1 = omega arith in
-      take-all (n - 0) line (omega arith) ∙ simp (ne-eqb (getD line (length line - 1) 0) 10 (λ z. h (ap (λ (k : ℕ). getD line k 0) q ∙ z)))
+      take-all (n - 0) line (omega arith) ∙ simp (ne-eqb (getD line (length line - 1) 0) lineEnd (λ z. h (ap (λ (k : ℕ). getD line k 0) q ∙ z)))
 
-  pub body-ended : getD line (n - 1) 0 ≡ 10 → take (n - 1 - 0) (drop 0 line) ≡ bodyOf line
+  pub body-ended : getD line (n - 1) 0 ≡ lineEnd → take (n - 1 - 0) (drop 0 line) ≡ bodyOf line
   unfolding bodyOf
   body-ended h =
       let q : n - 1 - 0 ≡ length line - 1 = omega arith in
       let r : n - 1 ≡ length line - 1 = omega arith in
-      ap (λ (k : ℕ). take k line) q ∙ simp (eq-eqb (getD line (length line - 1) 0) 10 (ap (λ (k : ℕ). getD line k 0) (sym r) ∙ h))
+      ap (λ (k : ℕ). take k line) q ∙ simp (eq-eqb (getD line (length line - 1) 0) lineEnd (ap (λ (k : ℕ). getD line k 0) (sym r) ∙ h))
 
 pub body-empty : (line : List ℕ) (n : ℕ) → n ≡ length line → n ≡ 0 → take (n - 0) (drop 0 line) ≡ bodyOf line
 body-empty [] n e h = body-open [] n e (λ z. omega arith)
 body-empty (b ∷ line) n e h = absurd (omega arith)
-
-module _ (s : List ℕ) (i : ℕ) where
-  pub end-here : i < length s → getD s i 0 ≡ 10 → true ≡ holdsEnd (drop i s)
-  unfolding holdsEnd
-  end-here h e = rw (drop-cons s i 0 h) (simp (eq-eqb _ _ e))
-
-  pub end-later : i < length s → (getD s i 0 ≡ 10 → ⊥) → holdsEnd (drop (i + 1) s) ≡ holdsEnd (drop i s)
-  unfolding holdsEnd
-  end-later h ne = rw (add-one, drop-cons s i 0 h) (simp (ne-eqb _ _ ne))
-
-  pub end-none : length s ≤ i → false ≡ holdsEnd (drop i s)
-  unfolding holdsEnd
-  end-none h = rw (drop-of-length-le s h)
 
 pub letter-none : (s : List ℕ) → length s ≡ 0 → 0 ≡ letterOf s
 unfolding letterOf
@@ -48,17 +35,17 @@ letter-alone [] h = absurd (omega arith)
 letter-alone (b ∷ []) h = refl
 letter-alone (b ∷ c ∷ s) h = absurd (omega arith)
 
-pub letter-parted : (s : List ℕ) → 1 < length s → getD s 1 0 ≡ 44 → getD s 0 0 ≡ letterOf s
+pub letter-parted : (s : List ℕ) → 1 < length s → getD s 1 0 ≡ comma → getD s 0 0 ≡ letterOf s
 unfolding letterOf
 letter-parted [] h e = absurd (omega arith)
 letter-parted (b ∷ []) h e = absurd (omega arith)
-letter-parted (b ∷ c ∷ s) h e = simp (eq-eqb c 44 e)
+letter-parted (b ∷ c ∷ s) h e = simp (eq-eqb c comma e)
 
-pub letter-longer : (s : List ℕ) → 1 < length s → (getD s 1 0 ≡ 44 → ⊥) → 0 ≡ letterOf s
+pub letter-longer : (s : List ℕ) → 1 < length s → (getD s 1 0 ≡ comma → ⊥) → 0 ≡ letterOf s
 unfolding letterOf
 letter-longer [] h e = absurd (omega arith)
 letter-longer (b ∷ []) h e = absurd (omega arith)
-letter-longer (b ∷ c ∷ s) h e = simp (ne-eqb c 44 e)
+letter-longer (b ∷ c ∷ s) h e = simp (ne-eqb c comma e)
 
 -- the rule of a letter that is known
 pub rule-known : (s : List ℕ) (l b : ℕ) (x : Parsed) → l ≡ letterOf s → l ≡ b → x ≡ parsedBy (ruleOf b (split s)) → x ≡ parsedBy (lineRule s)
@@ -88,10 +75,10 @@ module _ (line s : List ℕ) (e : s ≡ bodyOf line) where
   unfolding conditions
   too-long h = refused (first-applies _ _ (lt-ltb longest (length s) h))
 
-  pub broken : length s ≤ longest → holdsEnd s ≡ true → Parsed.Refused Refusal.Form ≡ entryOf line
+  pub broken : length s ≤ longest → holds lineEnd s ≡ true → Parsed.Refused Refusal.Form ≡ entryOf line
   unfolding conditions
   broken h q = refused (first-passed _ _ (le-ltb longest (length s) h) ∙ first-applies _ _ q)
 
-  pub whole : (x : Parsed) → length s ≤ longest → holdsEnd s ≡ false → x ≡ parsedBy (lineRule s) → x ≡ entryOf line
+  pub whole : (x : Parsed) → length s ≤ longest → holds lineEnd s ≡ false → x ≡ parsedBy (lineRule s) → x ≡ entryOf line
   unfolding entryOf conditions
   whole x h q r = r ∙ rw (sym e) (ap (λ (v : Verdict). parsed v (lineRule s .entry)) (sym (first-passed _ _ (le-ltb longest (length s) h) ∙ first-passed _ _ q)))

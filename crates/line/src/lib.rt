@@ -3,7 +3,7 @@ ghost use mathlib.Core.Path.{_≡_};
 ghost use Rattle.text.specs.{split};
 ghost use Rattle.line_entry.specs.{parsedBy};
 ghost use Rattle.line_column.specs.{roomFor, filled};
-ghost use Rattle.line.specs.{bodyOf, holdsEnd, letterOf, lineRule, entryOf};
+ghost use Rattle.line.specs.{bodyOf, letterOf, lineRule, entryOf};
 use line_entry::Parsed;
 use refusals::Refusal;
 use refusals::Verdict;
@@ -19,23 +19,10 @@ fn body(line: &[u8]) -> &[u8]
     if count == 0 {
         return &line[0..count];
     }
-    if line[count - 1] == 10 {
+    if line[count - 1] == b'\n' {
         return &line[0..count - 1];
     }
     &line[0..count]
-}
-
-fn holds_end(body: &[u8]) -> bool
-    ensures { λ r. ⌜ r ≡ holdsEnd (now (body .entry)) ⌝ }
-{
-    let mut i = 0;
-    while i < body.len() {
-        if body[i] == 10 {
-            return true;
-        }
-        i += 1;
-    }
-    false
 }
 
 fn letter(body: &[u8]) -> u8
@@ -47,7 +34,7 @@ fn letter(body: &[u8]) -> u8
     if body.len() == 1 {
         return body[0];
     }
-    if body[1] == 44 {
+    if body[1] == b',' {
         return body[0];
     }
     0
@@ -57,13 +44,13 @@ fn by_letter(body: &[u8]) -> Parsed
     ensures { λ r. ⌜ r ≡ parsedBy (lineRule (now (body .entry))) ⌝ }
 {
     match letter(body) {
-        84 => line_column::column_entry(body),
-        65 => line_area::open_entry(body),
-        83 => line_sub::add_entry(body),
-        67 => line_stand::clear_entry(body),
-        80 => line_stand::plant_entry(body),
-        82 => line_area::file_entry(body),
-        87 => line_area::withdraw_entry(body),
+        b'T' => line_column::column_entry(body),
+        b'A' => line_area::open_entry(body),
+        b'S' => line_sub::add_entry(body),
+        b'C' => line_stand::clear_entry(body),
+        b'P' => line_stand::plant_entry(body),
+        b'R' => line_area::file_entry(body),
+        b'W' => line_area::withdraw_entry(body),
         _ => Parsed::Refused(Refusal::Form),
     }
 }
@@ -75,7 +62,7 @@ pub fn parse(line: &[u8]) -> Parsed
     if LONGEST < inner.len() {
         return Parsed::Refused(Refusal::Form);
     }
-    if holds_end(inner) {
+    if text::holds(inner, b'\n') {
         return Parsed::Refused(Refusal::Form);
     }
     by_letter(inner)

@@ -1,7 +1,7 @@
--- Cells: a field of one byte stands for a place, and a turn of the scan adds a cell to what was judged and kept.
-use Rattle.laws.proofs.{ℕ, _+_, _-_, _≤_, _<_, _≡_, refl, sym, ap, _∙_, Bool, true, false, cond, _||_, List, [], _∷_, arith, add-one, lt-ltb, le-ltb, eqb, lit≤, length, getD, take, drop, set, length-drop, drop-of-length-le, sets}
+-- The letter that a field is. Cells: a turn of the scan adds a cell to what was judged and kept.
+use Rattle.laws.proofs.{ℕ, _+_, _-_, _≤_, _<_, _≡_, refl, sym, ap, _∙_, Bool, true, false, _||_, List, [], _∷_, arith, add-one, lt-ltb, le-ltb, length, getD, take, drop, set, length-drop, drop-of-length-le, sets}
 use Rattle.laws.specs.{some}
-use Rattle.text.specs.{width, split}
+use Rattle.text.specs.{comma, widthTo, split}
 use Rattle.text.proofs.Fields.{field-last, field-comma}
 use Rattle.text_number.specs.{Number}
 use Rattle.text_value.specs.{fitted}
@@ -9,26 +9,23 @@ use Rattle.text_decimal.specs.{cellIn}
 use Rattle.text_field.specs.{Places, placesOf}
 use Rattle.text_field.proofs.Laws.{count-found}
 use Rattle.refusals.specs.{Refusal, Verdict}
-use Rattle.line_column.specs.{Place, kindByte, typeByte, alone, kindOf, typeOf, placeOf, cellsOf, someCell, tenthsAll, cellsFound, roomFor, filled}
+use Rattle.line_column.specs.{letterIn, cellsOf, someCell, tenthsAll, cellsFound, roomFor, filled}
 
-pub one-byte : (place : ℕ → Place) (s : List ℕ) → length s ≡ 1 → place (getD s 0 0) ≡ alone place s
-unfolding alone
-one-byte place [] h = absurd (omega arith)
-one-byte place (b ∷ []) h = refl
-one-byte place (b ∷ d ∷ s) h = absurd (omega arith)
+pub letter-alone : (s : List ℕ) → length s ≡ 1 → getD s 0 0 ≡ letterIn s
+unfolding letterIn
+letter-alone [] h = absurd (omega arith)
+letter-alone (b ∷ []) h = refl
+letter-alone (b ∷ d ∷ s) h = absurd (omega arith)
 
-pub no-one-byte : (place : ℕ → Place) (s : List ℕ) → (length s ≡ 1 → ⊥) → Place.Nowhere ≡ alone place s
-unfolding alone
-no-one-byte place [] h = refl
-no-one-byte place (b ∷ []) h = absurd (h refl)
-no-one-byte place (b ∷ d ∷ s) h = refl
-
-pub no-place : (place : ℕ → Place) (s : List ℕ) → length s ≡ 1 → place (getD s 0 0) ≡ Place.Nowhere → Place.Nowhere ≡ alone place s
-no-place place s h e = sym e ∙ one-byte place s h
+pub no-letter : (s : List ℕ) → (length s ≡ 1 → ⊥) → 0 ≡ letterIn s
+unfolding letterIn
+no-letter [] h = refl
+no-letter (b ∷ []) h = absurd (h refl)
+no-letter (b ∷ d ∷ s) h = refl
 
 -- ---- a turn of the scan
 
-module _ (s : List ℕ) (start end : ℕ) (e : end ≡ start + width (drop start s)) (h : start ≤ length s) (cell : Number)
+module _ (s : List ℕ) (start end : ℕ) (e : end ≡ start + widthTo comma (drop start s)) (h : start ≤ length s) (cell : Number)
     (read : cell ≡ cellIn (take (end - start) (drop start s))) where
   module _ (kind : Number → Bool) (found : Bool) (b : Bool) (q : b ≡ kind cell) where
     pub judge-next : end < length s → (found || b) || someCell kind (split (drop (end + 1) s)) ≡ found || someCell kind (split (drop start s))
@@ -82,32 +79,3 @@ module _ (fs : List (List ℕ)) (out : List ℕ) (n : ℕ) (e : n ≡ length (ce
   pub enough : (kept : List ℕ) → n ≤ length out → kept ≡ sets out 0 (tenthsAll (cellsOf fs)) → (Verdict.Accepted ≡ roomFor fs out) × (kept ≡ filled fs out)
   unfolding roomFor filled
   enough kept l q = let t = le-ltb (length out) (length (cellsOf fs)) (omega arith) in (simp t, q ∙ simp t)
-
--- ---- the column
-
-alone-le : (k : ℕ) (place : ℕ → Place) (s : List ℕ) → ((b : ℕ) → placeOf (place b) ≤ k) → placeOf (alone place s) ≤ k
-unfolding alone
-alone-le k place [] h = omega arith
-alone-le k place (b ∷ []) h = h b
-alone-le k place (b ∷ d ∷ s) h = omega arith
-
-pub kind-le : (p : Place) (s : List ℕ) → p ≡ kindOf s → placeOf p ≤ 5
-unfolding kindOf kindByte
-kind-le p s e = rw e (alone-le 5 kindByte s (λ b. go (eqb b 71) (eqb b 82)))
-  where
-    go : (g r : Bool) → placeOf (cond g (Place.At 0) (cond r (Place.At 5) Place.Nowhere)) ≤ 5
-    go true r = lit≤ tt
-    go false true = lit≤ tt
-    go false false = lit≤ tt
-
-pub type-le : (p : Place) (s : List ℕ) → p ≡ typeOf s → placeOf p ≤ 4
-unfolding typeOf typeByte
-type-le p s e = rw e (alone-le 4 typeByte s (λ b. go (eqb b 80) (eqb b 68) (eqb b 83) (eqb b 72) (eqb b 78)))
-  where
-    go : (p d s h n : Bool) → placeOf (cond p (Place.At 0) (cond d (Place.At 1) (cond s (Place.At 2) (cond h (Place.At 3) (cond n (Place.At 4) Place.Nowhere))))) ≤ 4
-    go true d s h n = lit≤ tt
-    go false true s h n = lit≤ tt
-    go false false true h n = lit≤ tt
-    go false false false true n = lit≤ tt
-    go false false false false true = lit≤ tt
-    go false false false false false = lit≤ tt

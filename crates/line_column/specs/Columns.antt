@@ -1,57 +1,25 @@
 -- "T,kind,type,cells: kind G (stock) or R (residue); type P, D, S, H or N; 1 to 101 cells, each a number with at most one decimal, at most 3000."
-use Rattle.laws.specs.{ℕ, _+_, Bool, true, false, cond, List, [], _∷_, map, eqb, leb, ltb, length, drop, some}
-use lib.Seq.{sets}
-use Rattle.text.specs.{fieldAt}
+use Rattle.laws.specs.{ℕ, Bool, not, cond, List, [], _∷_, map, leb, ltb, length, drop, some, sets}
+use Rattle.table.specs.{longestColumn}
+use Rattle.schedules.specs.{cellCeiling}
+use Rattle.text.specs.{holds, fieldAt}
 use Rattle.text_number.specs.{Number}
 use Rattle.text_value.specs.{malformed, outside, fitted}
 use Rattle.text_decimal.specs.{cellIn}
 use Rattle.refusals.specs.{Verdict, _⇒_, Refusal}
+use Rattle.table_parts.specs.{kindLetters, typeLetters, columnNumber}
 use Rattle.line_entry.specs.{Rule, Entry}
-use Rattle.line_column.specs.declared.Place.{Place}
 use Rattle.line_column.specs.declared.Cells.{Cells}
 
--- the columns are numbered "for stock of P, D, S, H, N, then residue in that order"
-unfoldable pub kindByte : ℕ → Place
-kindByte b = cond (eqb b 71) (Place.At 0) (cond (eqb b 82) (Place.At 5) Place.Nowhere)
-
-unfoldable pub typeByte : ℕ → Place
-typeByte b =
-    cond (eqb b 80) (Place.At 0)
-    (cond (eqb b 68) (Place.At 1)
-    (cond (eqb b 83) (Place.At 2)
-    (cond (eqb b 72) (Place.At 3)
-    (cond (eqb b 78) (Place.At 4) Place.Nowhere))))
-
--- what a field of one byte stands for
-unfoldable pub alone : (ℕ → Place) → List ℕ → Place
-alone place [] = Place.Nowhere
-alone place (b ∷ []) = place b
-alone place (b ∷ c ∷ bs) = Place.Nowhere
-
-unfoldable pub kindOf : List ℕ → Place
-kindOf field = alone kindByte field
-
-unfoldable pub typeOf : List ℕ → Place
-typeOf field = alone typeByte field
-
-abbrev pub nowhere : Place → Bool
-nowhere (Place.At k) = false
-nowhere Place.Nowhere = true
-
-abbrev pub placeOf : Place → ℕ
-placeOf (Place.At k) = k
-placeOf Place.Nowhere = 0
+-- the letter that a field is; one of no byte or of several is none, 0
+unfoldable pub letterIn : List ℕ → ℕ
+letterIn [] = 0
+letterIn (b ∷ []) = b
+letterIn (b ∷ c ∷ bs) = 0
 
 -- the place of the first cell among a line's fields
 abbrev pub firstCell : ℕ
 firstCell = 3
-
-abbrev pub mostCells : ℕ
-mostCells = 101
-
--- in tenths
-abbrev pub greatestCell : ℕ
-greatestCell = 30000
 
 -- the cells of a line's fields
 abbrev pub cellsOf : List (List ℕ) → List (List ℕ)
@@ -63,19 +31,19 @@ someCell kind fs = some (λ f. kind (cellIn f)) fs
 
 -- "at most 3000"
 abbrev pub badCell : Number → Bool
-badCell n = outside 0 greatestCell n
+badCell n = outside 0 cellCeiling n
 
 unfoldable pub columnRule : List (List ℕ) → Rule
-columnRule fs = let kind = kindOf (fieldAt fs 1) in let type = typeOf (fieldAt fs 2) in record {
+columnRule fs = let kind = letterIn (fieldAt fs 1) in let type = letterIn (fieldAt fs 2) in record {
   cases =
       leb (length fs) firstCell ⇒ Refusal.Form
-      ∷ nowhere kind ⇒ Refusal.Form
+      ∷ not (holds kind kindLetters) ⇒ Refusal.Form
       ∷ someCell malformed (cellsOf fs) ⇒ Refusal.Form
-      ∷ nowhere type ⇒ Refusal.ForestType
-      ∷ ltb mostCells (length (cellsOf fs)) ⇒ Refusal.TableColumn
+      ∷ not (holds type typeLetters) ⇒ Refusal.ForestType
+      ∷ ltb longestColumn (length (cellsOf fs)) ⇒ Refusal.TableColumn
       ∷ someCell badCell (cellsOf fs) ⇒ Refusal.TableColumn
       ∷ [];
-  entry = Entry.Column (placeOf kind + placeOf type);
+  entry = Entry.Column (columnNumber kind type);
 }
 
 -- a cell's tenths; a field that is no cell counts as 0

@@ -6,18 +6,12 @@ ghost use lib.Seq.{sets};
 ghost use Rattle.text.specs.{split};
 ghost use Rattle.line_entry.specs.{parsedBy};
 ghost use Rattle.text_field.specs.{placesOf};
-ghost use Rattle.line_column.specs.{kindOf, typeOf, nowhere, placeOf, firstCell, cellsOf, cellsFound, tenthsAll, columnRule, roomFor, filled};
+ghost use Rattle.line_column.specs.{letterIn, firstCell, cellsOf, cellsFound, tenthsAll, columnRule, roomFor, filled};
 use line_entry::Entry;
 use line_entry::Parsed;
 use refusals::Refusal;
 use refusals::Verdict;
 use text_field::Places;
-
-// A place among the columns, or none.
-pub enum Place {
-    At(usize),
-    Nowhere,
-}
 
 // Whether a cell is malformed, and whether one is over the greatest.
 pub struct Cells {
@@ -27,55 +21,18 @@ pub struct Cells {
 
 const FIRST_CELL: usize = 3;
 
-const MOST_CELLS: usize = 101;
+const MOST_CELLS: usize = table::LONGEST_COLUMN as usize;
 
-const GREATEST_CELL: u64 = 30000;
+const GREATEST_CELL: u64 = table::CELL_CEILING as u64;
 
-fn kind_of(field: &[u8]) -> Place
-    ensures { λ r. ⌜ r ≡ kindOf (now (field .entry)) ⌝ }
+// The letter that a field is, or 0.
+fn letter_in(field: &[u8]) -> u8
+    ensures { λ r. ⌜ r ≡ letterIn (now (field .entry)) ⌝ }
 {
     if field.len() != 1 {
-        return Place::Nowhere;
+        return 0;
     }
-    match field[0] {
-        71 => Place::At(0),
-        82 => Place::At(5),
-        _ => Place::Nowhere,
-    }
-}
-
-fn type_of(field: &[u8]) -> Place
-    ensures { λ r. ⌜ r ≡ typeOf (now (field .entry)) ⌝ }
-{
-    if field.len() != 1 {
-        return Place::Nowhere;
-    }
-    match field[0] {
-        80 => Place::At(0),
-        68 => Place::At(1),
-        83 => Place::At(2),
-        72 => Place::At(3),
-        78 => Place::At(4),
-        _ => Place::Nowhere,
-    }
-}
-
-fn is_nowhere(place: Place) -> bool
-    ensures { λ r. ⌜ r ≡ nowhere place ⌝ }
-{
-    match place {
-        Place::At(_) => false,
-        Place::Nowhere => true,
-    }
-}
-
-fn place_of(place: Place) -> usize
-    ensures { λ r. ⌜ r ≡ placeOf place ⌝ }
-{
-    match place {
-        Place::At(k) => k,
-        Place::Nowhere => 0,
-    }
+    field[0]
 }
 
 // Keeps a cell's tenths, while there is room.
@@ -98,7 +55,7 @@ fn scan_cells(line: &[u8], first: usize, cells: &mut [u16]) -> Cells
     let mut k: usize = 0;
     let mut start = first;
     loop {
-        let end = text_field::end_of(line, start);
+        let end = text::end_of(line, start, b',');
         let cell = text_decimal::cell(&line[start..end]);
         malformed = malformed | text_value::is_malformed(cell);
         over = over | text_value::is_outside(cell, 0, GREATEST_CELL);
@@ -146,20 +103,20 @@ pub fn column_entry(line: &[u8]) -> Parsed
     let places = text_field::scan(line);
     let count = places.count;
     let number = cell_count(count);
-    let kind = kind_of(text_field::field(line, places, 1));
-    let named = type_of(text_field::field(line, places, 2));
+    let kind = letter_in(text_field::field(line, places, 1));
+    let named = letter_in(text_field::field(line, places, 2));
     let mut unkept = [0u16; 1];
     let cells = all_cells(line, places, &mut unkept);
     let v = refusals::weigh(Verdict::Accepted, count <= FIRST_CELL, Refusal::Form);
-    let v = refusals::weigh(v, is_nowhere(kind), Refusal::Form);
+    let v = refusals::weigh(v, !table_parts::is_kind(kind), Refusal::Form);
     let v = refusals::weigh(v, cells.malformed, Refusal::Form);
-    let v = refusals::weigh(v, is_nowhere(named), Refusal::ForestType);
+    let v = refusals::weigh(v, !table_parts::is_type(named), Refusal::ForestType);
     let v = refusals::weigh(v, MOST_CELLS < number, Refusal::TableColumn);
     let v = refusals::weigh(v, cells.over, Refusal::TableColumn);
     match v {
         Verdict::Refused(refusal) => Parsed::Refused(refusal),
         Verdict::Accepted => Parsed::Taken(Entry::Column {
-            column: place_of(kind) + place_of(named),
+            column: table_parts::column_number(kind, named),
         }),
     }
 }

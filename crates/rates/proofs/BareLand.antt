@@ -1,13 +1,16 @@
 -- Bare land has no column of the participant's and no place among the default's cells, so that its rate is 0.
 use Rattle.laws.proofs.{ℕ, _≤_, _≡_, refl, sym, ap, _∙_, List, [], arith, lit≤}
-use Rattle.forest.specs.{Forest}
+use Rattle.forest.specs.{Forest, lettersOf}
 use Rattle.units.specs.{Rate}
 use Rattle.schedules.specs.{Kind, Column, listed, placeSix}
+use Rattle.text.specs.{widthTo}
+use Rattle.table_parts.specs.{columnNumber}
 use Rattle.table_parts.proofs.Lengths.{no-length}
 use Rattle.rates.specs.{ownNumber, atPlace, cellAt, rateSix}
 use Rattle.rates.proofs.LookUp.{without-cells, defaults}
 
 past-ten : (kind : Kind) → 10 ≤ ownNumber kind Forest.Bare
+unfolding columnNumber widthTo lettersOf
 past-ten Kind.Stock = lit≤ tt
 past-ten Kind.Residue = lit≤ tt
 

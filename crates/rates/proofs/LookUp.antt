@@ -1,11 +1,13 @@
 -- The look-up by where the age lies, and the column consulted by its length.
-use Rattle.laws.proofs.{ℕ, _-_, _<_, _≤_, min, _≡_, refl, sym, ap, Bool, true, false, cond, List, [], arith, lt-ltb, le-ltb, eq-eqb, ne-eqb, eqb, lit≤, length, getD}
+use Rattle.laws.proofs.{ℕ, _+_, _-_, _<_, _≤_, min, _≡_, refl, sym, ap, Bool, true, false, cond, List, [], _++_, arith, lt-ltb, le-ltb, eq-eqb, ne-eqb, eqb, length, getD}
 use lib.ListN.{List·getD-eq-default}
-use Rattle.forest.specs.{Forest}
+use Rattle.forest.specs.{Forest, lettersOf}
 use Rattle.schedules.specs.{Kind, listed, placeSix}
-use Rattle.table_parts.specs.{lengthOf}
+use Rattle.text.specs.{widthTo}
+use Rattle.text.proofs.Widths.{width-le}
+use Rattle.table_parts.specs.{typeLetters, columnNumber, lengthOf}
 use Rattle.table_lent.specs.{ownColumn}
-use Rattle.rates.specs.{ownStock, ownNumber, atPlace, consulted, firstAge, cellAt}
+use Rattle.rates.specs.{ownNumber, atPlace, consulted, firstAge, cellAt}
 
 module _ (first : ℕ) (cells : List ℕ) (age : ℕ) where
   pub below-first : age < first → 0 ≡ cellAt (listed first cells) age
@@ -24,13 +26,14 @@ module _ (first : ℕ) (cells : List ℕ) (age : ℕ) where
   unfolding cellAt
   beyond-last h i = simp (le-ltb _ _ h) (ap (λ (k : ℕ). getD cells k 0) (omega arith))
 
-pub at-most-ten : (f : Forest) → ownStock f ≤ 10
-at-most-ten Forest.Bare = lit≤ tt
-at-most-ten (Forest.Radiata r) = lit≤ tt
-at-most-ten Forest.DouglasFir = lit≤ tt
-at-most-ten Forest.ExoticSoftwoods = lit≤ tt
-at-most-ten Forest.ExoticHardwoods = lit≤ tt
-at-most-ten Forest.Indigenous = lit≤ tt
+pub at-most-ten : (f : Forest) → ownNumber Kind.Stock f ≤ 10
+unfolding columnNumber widthTo
+at-most-ten f = omega (arith, width-le (getD (lettersOf f) 0 0) (typeLetters ++ typeLetters))
+
+-- residue's columns come behind the five of stock
+pub five-more : (f : Forest) → 5 + ownNumber Kind.Stock f ≡ ownNumber Kind.Residue f
+unfolding columnNumber widthTo
+five-more f = omega arith
 
 module _ (own default : List ℕ) (kind : Kind) (forest : Forest) where
   pub defaults : lengthOf own (ownNumber kind forest) ≡ 0 → consulted own default kind forest ≡ atPlace default (placeSix kind forest)

@@ -1,23 +1,18 @@
--- The column consulted, and the look-up of a cell by age. `own` is the participant's table, `default` the cells of Schedule 6 as they are lent.
-use Rattle.laws.specs.{ℕ, _+_, _-_, min, cond, List, [], eqb, ltb, length, getD, take, drop}
+-- The column consulted, the look-up of a cell by age, and the decay of residue. `own` is the participant's table, `default` the cells of Schedule 6 as they are lent.
+use Rattle.laws.specs.{code, ℕ, _-_, min, cond, List, [], eqb, ltb, length, getD, take, drop, _∷_}
 use Rattle.units.specs.{Rate}
-use Rattle.forest.specs.{Forest}
+use Rattle.forest.specs.{Forest, lettersOf}
 use Rattle.schedules.specs.{Kind, Place, Column, listed, placeFour, placeSix}
-use Rattle.table_parts.specs.{columnCount, lengthOf}
+use Rattle.table_parts.specs.{columnNumber, lengthOf}
 use Rattle.table_lent.specs.{ownColumn}
 
--- "for stock of P, D, S, H, N, then residue in that order"; "P serves all regions"; bare land has no column
-abbrev pub ownStock : Forest → ℕ
-ownStock Forest.Bare = columnCount
-ownStock (Forest.Radiata region) = 0
-ownStock Forest.DouglasFir = 1
-ownStock Forest.ExoticSoftwoods = 2
-ownStock Forest.ExoticHardwoods = 3
-ownStock Forest.Indigenous = 4
+abbrev pub kindLetter : Kind → ℕ
+kindLetter Kind.Stock = code "G"
+kindLetter Kind.Residue = code "R"
 
+-- the participant's column, by the first letter of its type: "P serves all regions"; bare land's B has none
 abbrev pub ownNumber : Kind → Forest → ℕ
-ownNumber Kind.Stock forest = ownStock forest
-ownNumber Kind.Residue forest = 5 + ownStock forest
+ownNumber kind forest = columnNumber (kindLetter kind) (getD (lettersOf forest) 0 0)
 
 -- a schedule's column, read off its cells
 abbrev pub atPlace : List ℕ → Place → Column
@@ -48,3 +43,11 @@ rateSix own default kind forest age = record { 0 = cellAt (consulted own default
 -- the rate of pre-1990 forest land, by the cells of Schedule 4, where it is the type's column that is read: `four-column`
 unfoldable pub rateFour : List ℕ → Forest → ℕ → Rate
 rateFour cells forest age = record { 0 = cellAt (atPlace cells (placeFour forest)) age }
+
+-- "share is a table of eleven, 10 down to 0, at y − c, and 0 past ten years (002, T2)"
+abbrev pub shares : List ℕ
+shares = 10 ∷ 9 ∷ 8 ∷ 7 ∷ 6 ∷ 5 ∷ 4 ∷ 3 ∷ 2 ∷ 1 ∷ 0 ∷ []
+
+-- the tenths of a residue that are left some years after the clearing
+unfoldable pub shareAfter : ℕ → ℕ
+shareAfter years = getD shares years 0

@@ -1,7 +1,7 @@
 // The column consulted, the look-up of a cell by age, and the decay of residue.
 ghost use mathlib.Core.Path.{_≡_};
-ghost use Rattle.schedules.specs.{listed};
-ghost use Rattle.rates.specs.{ownStock, ownNumber, consulted, firstAge, cellAt, rateSix, rateFour, shareAfter};
+ghost use Rattle.schedules.specs.{Kind, listed};
+ghost use Rattle.rates.specs.{ownNumber, consulted, firstAge, cellAt, rateSix, rateFour, shareAfter};
 use forest::Forest;
 use schedules::Kind;
 use units::Rate;
@@ -21,7 +21,7 @@ pub fn share(years: u16) -> u8
 
 // The participant's stock column of a type; 10 is none.
 fn own_stock(forest: Forest) -> usize
-    ensures { λ r. ⌜ r ≡ ownStock forest ⌝ }
+    ensures { λ r. ⌜ r ≡ ownNumber Kind.Stock forest ⌝ }
 {
     match forest {
         Forest::Bare => 10,

@@ -1,7 +1,7 @@
 -- What a holding keeps so that a statement carries it: "A reader accepts it exactly when .." of document 01.
-use Rattle.laws.specs.{ℕ, _+_, _*_, max, Bool, not, cond, _||_, Bool·beq, [], _∷_, eqb, leb, every, distinct, allOf}
+use Rattle.laws.specs.{ℕ, _+_, _*_, max, Bool, not, _||_, Bool·beq, [], _∷_, eqb, leb, every, distinct, allOf}
 use Rattle.ranges.specs.{lastYear, isBare, isArea, isSub, isYear, isLand, isPlanted}
-use Rattle.holding.specs.{Residue, Sub, Area, Holding, mostAreas, mostSubs, areasOf, subsOf}
+use Rattle.holding.specs.{Residue, Sub, Area, Holding, mostAreas, mostSubs, areasOf, subsOf, residuesOf}
 
 -- "stock is at most 6×10^10 for each sub"
 abbrev pub stockForSub : ℕ
@@ -42,12 +42,15 @@ amountsCarried area =
 unfoldable pub fieldsCarried : Area → Bool
 fieldsCarried area = allOf (leb (area .count) mostSubs ∷ isArea (area .number) ∷ yearsCarried area ∷ amountsCarried area ∷ [])
 
--- "no residue B,0,0"; "a residue's type isn't B, its year lies from opening to latest year, its age is at most 299"
+-- "a residue's type isn't B, its year lies from opening to latest year, its age is at most 299"
 unfoldable pub residueCarried : Area → Residue → Bool
 residueCarried area residue =
-    cond (isBare (residue .forest))
-    (allOf (eqb (residue .age) 0 ∷ eqb (residue .year) 0 ∷ []))
-    (allOf (leb (area .opening) (residue .year) ∷ leb (residue .year) (area .latest) ∷ leb (residue .age) oldestResidue ∷ []))
+    allOf
+    (not (isBare (residue .forest))
+    ∷ leb (area .opening) (residue .year)
+    ∷ leb (residue .year) (area .latest)
+    ∷ leb (residue .age) oldestResidue
+    ∷ [])
 
 -- "planted is at most the greater of opening and latest year; tenths are 10 to 100000"
 unfoldable pub subCarried : Area → Sub → Bool
@@ -57,7 +60,7 @@ subCarried area sub =
     ∷ isLand (sub .tenths)
     ∷ isPlanted (sub .forest) (sub .planted)
     ∷ leb (sub .planted) (max (area .opening) (area .latest))
-    ∷ residueCarried area (sub .residue)
+    ∷ every (residueCarried area) (residuesOf sub)
     ∷ [])
 
 -- an area whole; "numbers are distinct"

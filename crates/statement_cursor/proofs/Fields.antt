@@ -1,22 +1,9 @@
--- A field: the scan for its end a byte at a time, and what it is read as by the tests on its place and its end.
-use Rattle.laws.proofs.{ℕ, _+_, _-_, _≤_, _<_, _≡_, sym, ap, _∙_, List, arith, add-one, le-leb, lt-leb, eq-eqb, ne-eqb, length, take, drop, getD, drop-of-length-le, drop-cons}
+-- A field: what it is read as, by the tests on its place and its end.
+use Rattle.laws.proofs.{ℕ, _+_, _-_, _≤_, _<_, _≡_, sym, ap, _∙_, List, arith, le-leb, lt-leb, eq-eqb, ne-eqb, length, take, drop}
+use Rattle.text.specs.{widthTo}
 use Rattle.text_number.specs.{Number, numberIn}
 use Rattle.forest.specs.{Named, named}
-use Rattle.statement_cursor.specs.{NumberField, widthTo, fieldOf, fieldBy, noNumber, noType, numberBefore, numberAt, typeBefore, typeAt}
-
--- the scan, at a byte that does not end the field, at one that does, and past the last byte
-module _ (end : ℕ) (s : List ℕ) (i : ℕ) where
-  pub end-later : i < length s → (getD s i 0 ≡ end → ⊥) → i + 1 + widthTo end (drop (i + 1) s) ≡ i + widthTo end (drop i s)
-  unfolding widthTo
-  end-later h other = rw (add-one, drop-cons s i 0 h) (simp (ne-eqb _ _ other) (omega arith))
-
-  pub end-here : i < length s → getD s i 0 ≡ end → widthTo end (drop i s) ≡ 0
-  unfolding widthTo
-  end-here h e = rw (drop-cons s i 0 h) (simp (eq-eqb _ _ e))
-
-  pub end-none : length s ≤ i → widthTo end (drop i s) ≡ 0
-  unfolding widthTo
-  end-none h = rw (drop-of-length-le s h)
+use Rattle.statement_cursor.specs.{NumberField, fieldOf, fieldBy, noNumber, noType, numberBefore, numberAt, typeBefore, typeAt}
 
 -- a field at the place 0, one that is not ended, and one that ends at `stop`
 module _ {A : Type 0} (none : A) (read : ℕ → List ℕ → A) (s : List ℕ) (at end : ℕ) where

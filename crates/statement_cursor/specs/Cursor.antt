@@ -1,15 +1,11 @@
 -- What stands at a place of a list of bytes, and the place after it. The place 0 is nowhere. The reader's own: `accepts-just-when` (trips)
 -- says what it comes to by `carried` and `statementOf` alone.
-use Rattle.laws.specs.{ℕ, zero, suc, _+_, cond, _&&_, List, [], _∷_, eqb, leb, ltb, length, take, drop, getD}
+use Rattle.laws.specs.{ℕ, _+_, cond, _&&_, List, eqb, leb, ltb, length, take, drop, getD}
+use Rattle.text.specs.{comma, widthTo}
 use Rattle.text_number.specs.{Number, numberIn}
 use Rattle.forest.specs.{Named, named, Forest}
 use Rattle.statement_cursor.specs.declared.NumberField.{NumberField}
 use Rattle.statement_cursor.specs.declared.TypeField.{TypeField}
-
--- how many bytes there are before the first byte `end`, or in all
-unfoldable pub widthTo : ℕ → List ℕ → ℕ
-widthTo end [] = zero
-widthTo end (b ∷ bs) = cond (eqb b end) zero (suc (widthTo end bs))
 
 -- a field is what stands before the first byte `end`, which must be there; `read` says what it is, by the place after it and its bytes
 unfoldable pub fieldOf : {A : Type 0} → A → (ℕ → List ℕ → A) → List ℕ → ℕ → ℕ → A
@@ -42,7 +38,7 @@ typeAt s at end = fieldBy noType (λ next bytes. typeBefore next (named bytes)) 
 
 -- the letter that starts a line, and the comma after it
 unfoldable pub startAt : List ℕ → ℕ → ℕ → ℕ
-startAt s at letter = cond (ltb (at + 1) (length s) && eqb (getD s at 0) letter && eqb (getD s (at + 1) 0) 44) (at + 2) 0
+startAt s at letter = cond (ltb (at + 1) (length s) && eqb (getD s at 0) letter && eqb (getD s (at + 1) 0) comma) (at + 2) 0
 
 -- the same, where `at` is not the statement's start
 unfoldable pub lineAt : List ℕ → ℕ → ℕ → ℕ

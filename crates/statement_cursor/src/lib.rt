@@ -1,9 +1,8 @@
 // Reads fields at a place of lent bytes, each with the place after it. The place 0, where no field but a statement's first letter can stand,
 // says that something was not read: what is read there is not read either, so that a caller need only look at the last place.
-ghost use Prim.Native.Nat.{_+_, _≤_};
+ghost use Prim.Native.Nat.{_≤_};
 ghost use mathlib.Core.Path.{_≡_};
-ghost use lib.ListN.{drop};
-ghost use Rattle.statement_cursor.specs.{widthTo, numberAt, typeAt, startAt, lineAt};
+ghost use Rattle.statement_cursor.specs.{numberAt, typeAt, startAt, lineAt};
 use forest::Forest;
 use forest::Named;
 use text_number::Number;
@@ -18,21 +17,6 @@ pub struct TypeField {
     pub next: usize,
 }
 
-// The place of the first byte `end` at a place or after it; past the last byte where there is none.
-fn end_of(s: &[u8], at: usize, end: u8) -> usize
-    ensures { λ r. ⌜ r ≡ at + widthTo end (drop at (now (s .entry))) ⌝ }
-    ensures { λ r. ⌜ at ≤ r ⌝ }
-{
-    let mut i = at;
-    while i < s.len() {
-        if s[i] == end {
-            return i;
-        }
-        i += 1;
-    }
-    i
-}
-
 // The number of at most `most` that stands at a place and is ended by the byte `end`.
 pub fn number(s: &[u8], at: usize, end: u8, most: u64) -> NumberField
     ensures { λ r. ⌜ r ≡ numberAt (now (s .entry)) at end most ⌝ }
@@ -41,7 +25,7 @@ pub fn number(s: &[u8], at: usize, end: u8, most: u64) -> NumberField
     if at == 0 {
         return NumberField { value: 0, next: 0 };
     }
-    let stop = end_of(s, at, end);
+    let stop = text::end_of(s, at, end);
     if s.len() <= stop {
         return NumberField { value: 0, next: 0 };
     }
@@ -70,7 +54,7 @@ pub fn forest_type(s: &[u8], at: usize, end: u8) -> TypeField
             next: 0,
         };
     }
-    let stop = end_of(s, at, end);
+    let stop = text::end_of(s, at, end);
     if s.len() <= stop {
         return TypeField {
             forest: Forest::Bare,
@@ -103,7 +87,7 @@ pub fn start(s: &[u8], at: usize, letter: u8) -> usize
     if s.len() <= comma {
         return 0;
     }
-    if s[comma] != 44 {
+    if s[comma] != b',' {
         return 0;
     }
     comma + 1

@@ -1,8 +1,8 @@
 -- Parts of a statement put one after the other are one part, and as long as they are together.
-use Rattle.laws.proofs.{ℕ, suc, _+_, _^_, _≤_, _<_, _≡_, refl, sym, List, [], _∷_, _++_, append-nil, arith, length, length-append}
+use Rattle.laws.proofs.{ℕ, suc, _+_, _^_, _≤_, _<_, _≡_, sym, List, [], _∷_, _++_, append-nil, arith, length, length-append}
 use Rattle.text.specs.{Wrote, greatest}
 use Rattle.text.proofs.Digits.{length-digits-le}
-use Rattle.text.proofs.Writes.{wrote-then, wrote-as}
+use Rattle.text.proofs.Writes.{wrote-none, wrote-then, wrote-as}
 use Rattle.statement_format.specs.{numberText}
 use Rattle.statement_field.specs.{Put}
 
@@ -29,7 +29,7 @@ put-one w = record { wrote = w; few = omega arith }
 
 -- nothing put
 pub put-none : (l : List ℕ) (at : ℕ) → length l ≤ greatest → at ≤ greatest → Put 0 l at [] l at
-put-none l at h k = record { wrote = record { stored = refl; place = omega arith; lent = h }; few = omega arith }
+put-none l at h k = record { wrote = wrote-none l at h k; few = omega arith }
 
 -- ---- bounds of fields
 

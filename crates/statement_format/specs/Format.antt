@@ -3,7 +3,7 @@
 use Rattle.laws.specs.{ℕ, Bool, true, false, List, [], _∷_, _++_}
 use Rattle.text.specs.{digits}
 use Rattle.forest.specs.{Forest, lettersOf}
-use Rattle.holding.specs.{Residue, Sub, Area, Holding, areasOf, subsOf}
+use Rattle.holding.specs.{Residue, Sub, Area, Holding, areasOf, subsOf, noResidue, residuesOf}
 
 -- the letter that starts a line, and the comma after it
 unfoldable pub startText : ℕ → List ℕ
@@ -26,21 +26,22 @@ unfoldable pub texts : {A : Type 0} → (A → List ℕ) → List A → List ℕ
 texts text [] = []
 texts text (a ∷ l) = text a ++ texts text l
 
--- "residue type,residue age,residue year"
-unfoldable pub residueText : Residue → List ℕ
-residueText residue = joined (typeText (residue .forest) 44 ∷ numberText (residue .age) 44 ∷ numberText (residue .year) 10 ∷ [])
+-- "residue type,residue age,residue year", and the byte that ends it
+unfoldable pub residueText : Residue → ℕ → List ℕ
+residueText residue end = joined (typeText (residue .forest) 44 ∷ numberText (residue .age) 44 ∷ numberText (residue .year) end ∷ [])
+
+-- "no residue B,0,0"; else each residue, of which the last ends the line
+unfoldable pub residuesText : List Residue → List ℕ
+residuesText [] = residueText noResidue 10
+residuesText (residue ∷ []) = residueText residue 10
+residuesText (residue ∷ next ∷ residues) = residueText residue 44 ++ residuesText (next ∷ residues)
 
 -- "S,number,tenths,type,planted,residue type,residue age,residue year"
 unfoldable pub subText : Sub → List ℕ
 subText sub =
     joined
-    (startText 83
-    ∷ numberText (sub .number) 44
-    ∷ numberText (sub .tenths .0) 44
-    ∷ typeText (sub .forest) 44
-    ∷ numberText (sub .planted) 44
-    ∷ residueText (sub .residue)
-    ∷ [])
+    (startText 83 ∷ numberText (sub .number) 44 ∷ numberText (sub .tenths .0) 44 ∷ typeText (sub .forest) 44 ∷ numberText (sub .planted) 44
+    ∷ residuesText (residuesOf sub) ∷ [])
 
 -- "withdrawn (0 or 1)"
 abbrev pub flag : Bool → ℕ
@@ -51,22 +52,14 @@ flag true = 1
 unfoldable pub yearsText : Area → List ℕ
 yearsText area =
     joined
-    (numberText (area .number) 44
-    ∷ numberText (area .opening) 44
-    ∷ numberText (area .«open_year») 44
-    ∷ numberText (area .latest) 44
-    ∷ [])
+    (numberText (area .number) 44 ∷ numberText (area .opening) 44 ∷ numberText (area .«open_year») 44 ∷ numberText (area .latest) 44 ∷ [])
 
 -- "withdrawn (0 or 1),returns,stock kg (last closing, else opening),received,surrendered"
 unfoldable pub amountsText : Area → List ℕ
 amountsText area =
     joined
-    (numberText (flag (area .withdrawn)) 44
-    ∷ numberText (area .returns) 44
-    ∷ numberText (area .stock .0) 44
-    ∷ numberText (area .received) 44
-    ∷ numberText (area .surrendered) 44
-    ∷ [])
+    (numberText (flag (area .withdrawn)) 44 ∷ numberText (area .returns) 44 ∷ numberText (area .stock .0) 44 ∷ numberText (area .received) 44
+    ∷ numberText (area .surrendered) 44 ∷ [])
 
 -- "A,number,opening,open year,latest year,withdrawn ..,returns,stock ..,received,surrendered,subs; then its S .."
 unfoldable pub areaText : Area → List ℕ

@@ -2,16 +2,21 @@
 use Rattle.laws.specs.{ℕ, _+_, _*_}
 use Rattle.holding.specs.{mostAreas, mostSubs}
 
--- a letter and a comma; a number of 64 bits, of 16 bits; a type
+-- a letter and a comma
 abbrev pub startWidth : ℕ
 startWidth = 2
 
+-- a number of so many digits; of 64 bits and of 16 bits
+abbrev pub field : ℕ → ℕ
+field digits = digits + 1
+
 abbrev pub longWidth : ℕ
-longWidth = 21
+longWidth = field 20
 
 abbrev pub shortWidth : ℕ
-shortWidth = 6
+shortWidth = field 5
 
+-- a type
 abbrev pub typeWidth : ℕ
 typeWidth = 3
 
@@ -23,9 +28,6 @@ residueWidth = typeWidth + 2 * shortWidth
 abbrev pub subWidth : ℕ
 subWidth = startWidth + shortWidth + longWidth + typeWidth + shortWidth + residueWidth
 
-abbrev pub subsWidth : ℕ
-subsWidth = subWidth * mostSubs
-
 abbrev pub yearsWidth : ℕ
 yearsWidth = 4 * shortWidth
 
@@ -33,36 +35,18 @@ abbrev pub amountsWidth : ℕ
 amountsWidth = longWidth + shortWidth + 3 * longWidth
 
 abbrev pub areaWidth : ℕ
-areaWidth = startWidth + yearsWidth + amountsWidth + longWidth + subsWidth
+areaWidth = startWidth + yearsWidth + amountsWidth + longWidth + subWidth * mostSubs
 
 abbrev pub statementWidth : ℕ
 statementWidth = startWidth + longWidth + areaWidth * mostAreas
 
--- ---- of a holding that a statement carries: a number of 8 bits, of 32 bits, of fifteen digits, a count of two digits, 0 or 1
-
-abbrev pub byteWidth : ℕ
-byteWidth = 4
-
-abbrev pub wordWidth : ℕ
-wordWidth = 11
-
-abbrev pub amountWidth : ℕ
-amountWidth = 16
-
-abbrev pub countWidth : ℕ
-countWidth = 3
-
-abbrev pub flagWidth : ℕ
-flagWidth = 2
+-- ---- of a holding that a statement carries
 
 abbrev pub carriedSubWidth : ℕ
-carriedSubWidth = startWidth + byteWidth + wordWidth + typeWidth + shortWidth + residueWidth
-
-abbrev pub carriedAmountsWidth : ℕ
-carriedAmountsWidth = flagWidth + shortWidth + 3 * amountWidth
+carriedSubWidth = startWidth + field 3 + field 10 + typeWidth + shortWidth + residueWidth
 
 abbrev pub carriedAreaWidth : ℕ
-carriedAreaWidth = startWidth + yearsWidth + carriedAmountsWidth + countWidth + carriedSubWidth * mostSubs
+carriedAreaWidth = startWidth + yearsWidth + field 1 + shortWidth + 3 * field 15 + field 2 + carriedSubWidth * mostSubs
 
 abbrev pub carriedWidth : ℕ
-carriedWidth = startWidth + countWidth + carriedAreaWidth * mostAreas
+carriedWidth = startWidth + field 2 + carriedAreaWidth * mostAreas

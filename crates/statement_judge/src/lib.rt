@@ -2,7 +2,7 @@
 ghost use mathlib.Core.Path.{_≡_};
 ghost use Prim.Native.Nat.{max};
 ghost use Rattle.laws.specs.{every};
-ghost use Rattle.holding.specs.{areasOf, subsOf};
+ghost use Rattle.holding.specs.{areasOf, subsOf, residuesIn};
 ghost use Rattle.statement_carried.specs.{residueCarried, subCarried, areaCarried, carried};
 use holding::Area;
 use holding::Holding;
@@ -13,7 +13,7 @@ use holding::Sub;
 use statement_carried::OLDEST_RESIDUE;
 
 fn residue(area: Area, residue: Residue) -> bool
-    ensures { λ r. ⌜ r ≡ residueCarried area residue ⌝ }
+    ensures { λ r. ⌜ r ≡ every (residueCarried area) (residuesIn residue) ⌝ }
 {
     let forest = residue.forest;
     if ranges::is_bare(forest) {

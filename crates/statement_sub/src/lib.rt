@@ -1,6 +1,7 @@
 // The lines of an area's sub-areas, written into a lent buffer at any place.
-ghost use Rattle.statement_format.specs.{typeText, texts, residueText, subText, typeWidth, residueWidth, subWidth, subsWidth};
-ghost use Rattle.holding.specs.{subsOf};
+ghost use Prim.Native.Nat.{_*_};
+ghost use Rattle.statement_format.specs.{typeText, texts, residueText, subText, typeWidth, residueWidth, subWidth};
+ghost use Rattle.holding.specs.{mostSubs, subsOf};
 ghost use Rattle.statement_field.specs.{Put};
 use forest::Forest;
 use holding::Area;
@@ -36,7 +37,7 @@ fn put_type(out: &mut [u8], at: usize, forest: Forest, end: u8) -> usize
 }
 
 fn put_residue(out: &mut [u8], at: usize, residue: Residue) -> usize
-    ensures { λ r. ⌜ Put residueWidth (now (out .entry)) at (residueText residue) (now (out .exit)) r ⌝ }
+    ensures { λ r. ⌜ Put residueWidth (now (out .entry)) at (residueText residue 10) (now (out .exit)) r ⌝ }
 {
     let forest = residue.forest;
     let next = put_type(out, at, forest, 44);
@@ -60,7 +61,7 @@ fn put_sub(out: &mut [u8], at: usize, sub: Sub) -> usize
 
 // Puts the lines of an area's sub-areas, in order of adding; the answer is the place after what was put.
 pub fn put_subs(out: &mut [u8], at: usize, area: Area) -> usize
-    ensures { λ r. ⌜ Put subsWidth (now (out .entry)) at (texts subText (subsOf area)) (now (out .exit)) r ⌝ }
+    ensures { λ r. ⌜ Put (subWidth * mostSubs) (now (out .entry)) at (texts subText (subsOf area)) (now (out .exit)) r ⌝ }
 {
     let n = area.count;
     let mut next = at;

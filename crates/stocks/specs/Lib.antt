@@ -1,2 +1,2 @@
 pub mod Stocks
-unfoldable pub use Stocks.{treesOn, residueOn, subStock, areaStock}
+unfoldable pub use Stocks.{treesOn, oneResidueOn, residueOn, subStock, areaStock}

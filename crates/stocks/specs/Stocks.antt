@@ -1,19 +1,23 @@
 -- Sub-area stock: "Stock on 1 January of year y, from S entries and from clearings and plantings of earlier years .."
 -- `own` is the participant's table, `default` the cells of Schedule 6 as they are lent.
 use Rattle.laws.specs.{ℕ, _+_, _-_, List, sumBy}
-use Rattle.units.specs.{Kilograms, treesOf, residueOf}
+use Rattle.units.specs.{Tenths, Kilograms, treesOf, residueOf}
 use Rattle.schedules.specs.{Kind}
 use Rattle.rates.specs.{rateSix, shareAfter}
-use Rattle.holding.specs.{Sub, Area, subsOf}
+use Rattle.holding.specs.{Residue, Sub, Area, subsOf, residuesOf}
 
 -- "trees planted in p: tenths × stock cell at age (y − p) × 10"
 unfoldable pub treesOn : List ℕ → List ℕ → Sub → ℕ → Kilograms
 treesOn own default sub y = treesOf (sub .tenths) (rateSix own default Kind.Stock (sub .forest) (y - sub .planted))
 
 -- "residue of the latest clearing, in year c: tenths × residue cell at the age and type cleared × share, where share is .. at y − c"
+unfoldable pub oneResidueOn : List ℕ → List ℕ → Tenths → Residue → ℕ → Kilograms
+oneResidueOn own default land residue y =
+    residueOf land (rateSix own default Kind.Residue (residue .forest) (residue .age)) (shareAfter (y - residue .year))
+
+-- the sum over the residues that a sub-area has
 unfoldable pub residueOn : List ℕ → List ℕ → Sub → ℕ → Kilograms
-residueOn own default sub y =
-    residueOf (sub .tenths) (rateSix own default Kind.Residue (sub .residue .forest) (sub .residue .age)) (shareAfter (y - sub .residue .year))
+residueOn own default sub y = record { 0 = sumBy (λ (residue : Residue). oneResidueOn own default (sub .tenths) residue y .0) (residuesOf sub) }
 
 unfoldable pub subStock : List ℕ → List ℕ → Sub → ℕ → Kilograms
 subStock own default sub y = record { 0 = treesOn own default sub y .0 + residueOn own default sub y .0 }

@@ -1,3 +1,4 @@
 pub mod Digits
+pub mod Widths
 pub mod Fields
 pub mod Writes

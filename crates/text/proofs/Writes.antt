@@ -1,5 +1,5 @@
 -- Writes: two of them, the second where the first ends, are one. A write that fits leaves the bytes, and all else as it was.
-use Rattle.laws.proofs.{ℕ, _+_, _≤_, min, _≡_, sym, ap, subst, _∙_, List, _++_, append-assoc, ⊎-elim, arith, length, take, drop, length-append, sets}
+use Rattle.laws.proofs.{ℕ, _+_, _≤_, min, _≡_, refl, sym, ap, subst, _∙_, List, [], _++_, append-assoc, ⊎-elim, arith, length, take, drop, length-append, sets}
 use lib.Seq.{length-sets, sets-eq}
 use Rattle.laws.proofs.Order.{below-or-not}
 use Rattle.laws.proofs.Stores.{sets-append, sets-out}
@@ -14,6 +14,9 @@ then-bytes l at p xs ys h e =
     ∙ sym (sym (sets-append l at xs ys) ∙ sets-out (sets l at xs) (at + length xs) ys (omega (arith, length-sets l at xs))))
     (λ fits. ap (λ (k : ℕ). sets (sets l at xs) k ys) (omega arith) ∙ sets-append l at xs ys)
     (below-or-not greatest (at + length xs))
+
+pub wrote-none : (l : List ℕ) (at : ℕ) → length l ≤ greatest → at ≤ greatest → Wrote l at [] l at
+wrote-none l at h k = record { stored = refl; place = omega arith; lent = h }
 
 pub wrote-then : {l : List ℕ} {at : ℕ} {xs ys m o : List ℕ} {p q : ℕ} → Wrote l at xs m p → Wrote m p ys o q → Wrote l at (xs ++ ys) o q
 wrote-then {l} {at} {xs} {ys} {m} {o} {p} {q} a b = record {

@@ -1,3 +1,3 @@
 pub mod Decimals
-pub use Decimals.{cellIn}
-unfoldable pub use Decimals.{wholes, withDecimals, decimalIn, hectaresIn}
+pub use Decimals.{point, zeros, cellIn}
+unfoldable pub use Decimals.{withDecimals, decimalIn, hectaresIn}

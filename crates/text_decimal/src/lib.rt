@@ -1,32 +1,17 @@
 // Numbers with a point, read from bytes: hectares and table cells.
 ghost use mathlib.Core.Path.{_≡_};
-ghost use lib.ListN.{replicate};
 ghost use Rattle.text_number.specs.{more};
-ghost use Rattle.text_decimal.specs.{wholes, decimalIn, hectaresIn, cellIn};
+ghost use Rattle.text_decimal.specs.{zeros, decimalIn, hectaresIn, cellIn};
 use text_number::Number;
-
-// The place of the first point, or the end.
-fn point(bytes: &[u8]) -> usize
-    ensures { λ r. ⌜ r ≡ wholes (now (bytes .entry)) ⌝ }
-{
-    let mut i = 0;
-    while i < bytes.len() {
-        if bytes[i] == 46 {
-            return i;
-        }
-        i += 1;
-    }
-    i
-}
 
 // A number with zeros behind its digits.
 fn zeros(number: Number, count: usize) -> Number
-    ensures { λ r. ⌜ r ≡ more number (replicate count 48) ⌝ }
+    ensures { λ r. ⌜ r ≡ more number (zeros count) ⌝ }
 {
     let mut n = number;
     let mut left = count;
     while 0 < left {
-        n = text_number::append(n, 48);
+        n = text_number::append(n, b'0');
         left -= 1;
     }
     n
@@ -36,7 +21,7 @@ fn zeros(number: Number, count: usize) -> Number
 fn decimal(bytes: &[u8], places: usize) -> Number
     ensures { λ r. ⌜ r ≡ decimalIn places (now (bytes .entry)) ⌝ }
 {
-    let end = point(bytes);
+    let end = text::end_of(bytes, 0, b'.');
     let whole = text_number::read(&bytes[0..end]);
     if bytes.len() <= end {
         return zeros(whole, places);
@@ -57,7 +42,7 @@ fn decimal(bytes: &[u8], places: usize) -> Number
 pub fn hectares(bytes: &[u8]) -> Number
     ensures { λ r. ⌜ r ≡ hectaresIn (now (bytes .entry)) ⌝ }
 {
-    if 6 < point(bytes) {
+    if 6 < text::end_of(bytes, 0, b'.') {
         return Number::Malformed;
     }
     decimal(bytes, 4)

@@ -1,9 +1,10 @@
 -- The places of fields: what a turn of the scan adds to them, and that the part of a line that they give is the field.
-use Rattle.laws.proofs.{ℕ, zero, suc, _+_, _-_, _≤_, _<_, _≡_, refl, sym, ap, _∙_, Bool, true, false, cond, List, [], _∷_, ⊎-elim, arith, add-one, lt-ltb, le-ltb, eqb, length, getD, take, drop, set, replicate, length-take, length-drop, sets}
+use Rattle.laws.proofs.{ℕ, zero, suc, _+_, _-_, _≤_, _<_, _≡_, refl, sym, ap, _∙_, List, [], _∷_, ⊎-elim, arith, add-one, lt-ltb, le-ltb, length, getD, take, drop, set, replicate, length-take, length-drop, sets}
 use lib.ListN.{List·getD-eq-default, getD-replicate}
 use Rattle.laws.proofs.Order.{below-or-not}
 use Rattle.laws.proofs.Stores.{getD-sets}
-use Rattle.text.specs.{width, split, fieldAt}
+use Rattle.text.specs.{comma, widthTo, split, fieldAt}
+use Rattle.text.proofs.Widths.{end-inside}
 use Rattle.text.proofs.Fields.{field-last, field-comma}
 use Rattle.text_field.specs.{Places, startsFrom, placesOf, between, part}
 
@@ -24,7 +25,7 @@ module _ (start next : ℕ) (line : List ℕ) where
 
 -- ---- a turn of the scan
 
-module _ (s : List ℕ) (start end : ℕ) (e : end ≡ start + width (drop start s)) (h : start ≤ length s) (u : end ≤ length s) where
+module _ (s : List ℕ) (start end : ℕ) (e : end ≡ start + widthTo comma (drop start s)) (h : start ≤ length s) (u : end ≤ length s) where
   size : length (take (end - start) (drop start s)) ≡ end - start
   size = length-take (end - start) (drop start s) ∙ simp length-drop (omega arith)
 
@@ -65,18 +66,6 @@ unfolding startsFrom
 starts-length start [] = refl
 starts-length start (f ∷ fs) = ap suc (starts-length (start + length f + 1) fs)
 
-width-le : (s : List ℕ) → width s ≤ length s
-unfolding width
-width-le [] = omega arith
-width-le (b ∷ s) = go (eqb b 44) (width-le s)
-  where
-    go : (t : Bool) → width s ≤ length s → cond t 0 (suc (width s)) ≤ suc (length s)
-    go true h = omega arith
-    go false h = omega arith
-
-pub end-inside : (s : List ℕ) (start : ℕ) → start ≤ length s → start + width (drop start s) ≤ length s
-end-inside s start h = omega (arith, width-le (drop start s), length-drop start s)
-
 -- from any start on, a field reaches from its start to one byte before the next
 module _ (s : List ℕ) where
   abbrev Reaches : List ℕ → List (List ℕ) → ℕ → Type 0
@@ -87,10 +76,10 @@ module _ (s : List ℕ) where
 
   module _ (start : ℕ) (h : start ≤ length s) where
     abbrev end : ℕ
-    end = start + width (drop start s)
+    end = start + widthTo comma (drop start s)
 
     inside : end ≤ length s
-    inside = end-inside s start h
+    inside = end-inside comma s start h
 
     here : between start (end + 1) s ≡ take (end - start) (drop start s)
     here =
@@ -120,7 +109,7 @@ module _ (s : List ℕ) where
 
   stands : (k start : ℕ) → Stands start k
   stands zero start h b = first-or-later start h zero (λ j e. absurd (omega arith)) b
-  stands (suc k) start h b = first-or-later start h (suc k) (λ j e. let q : k ≡ j = omega arith in rw (sym q) (stands k (start + width (drop start s) + 1))) b
+  stands (suc k) start h b = first-or-later start h (suc k) (λ j e. let q : k ≡ j = omega arith in rw (sym q) (stands k (start + widthTo comma (drop start s) + 1))) b
 
   -- and the fields from a field's start on are the rest
   abbrev Follows : ℕ → ℕ → Type 0
@@ -128,7 +117,7 @@ module _ (s : List ℕ) where
       let here = getD (startsFrom start (split (drop start s))) k 0 in
       start ≤ length s → k < length (split (drop start s)) → (here ≤ length s) × (split (drop here s) ≡ drop k (split (drop start s)))
 
-  follows-later : (start k : ℕ) → Follows (start + width (drop start s) + 1) k → Follows start (suc k)
+  follows-later : (start k : ℕ) → Follows (start + widthTo comma (drop start s) + 1) k → Follows start (suc k)
   follows-later start k later h b =
       ⊎-elim
       (λ more.
@@ -139,7 +128,7 @@ module _ (s : List ℕ) where
 
   follows : (k start : ℕ) → Follows start k
   follows zero start h b = rw (head-start start (split (drop start s))) (h, refl)
-  follows (suc k) start h b = follows-later start k (follows k (start + width (drop start s) + 1)) h b
+  follows (suc k) start h b = follows-later start k (follows k (start + widthTo comma (drop start s) + 1)) h b
 
   -- what is noted of the starts
   noted : (j : ℕ) → j < 7 → getD (sets (replicate 7 0) 0 (startsFrom 0 (split s))) j 0 ≡ getD (startsFrom 0 (split s)) j 0

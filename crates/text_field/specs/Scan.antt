@@ -1,6 +1,5 @@
 -- Where the fields of a line stand: how many there are, and where each of the first six starts.
-use Rattle.laws.specs.{ℕ, _+_, _-_, cond, List, [], _∷_, ltb, length, getD, take, drop, replicate}
-use lib.Seq.{sets}
+use Rattle.laws.specs.{ℕ, _+_, _-_, cond, List, [], _∷_, ltb, length, getD, take, drop, replicate, sets}
 use Rattle.text_field.specs.declared.Places.{Places}
 
 -- where fields start that are parted by one byte each, the first of them at a given place, and where one behind the last would

@@ -1,8 +1,7 @@
 // Where the fields of a line stand, found in one scan, and a field as a part of its line.
 ghost use mathlib.Core.Path.{_≡_};
-ghost use Prim.Native.Nat.{_+_};
-ghost use lib.ListN.{set, drop};
-ghost use Rattle.text.specs.{split, width};
+ghost use lib.ListN.{set};
+ghost use Rattle.text.specs.{split};
 ghost use Rattle.text_field.specs.{placesOf, part};
 
 // How many fields there are, and where each of the first six starts and the one behind it does.
@@ -34,7 +33,7 @@ pub fn scan(line: &[u8]) -> Places
             if line.len() <= i {
                 break 'field i;
             }
-            if line[i] == 44 {
+            if line[i] == b',' {
                 break 'field i;
             }
             i += 1;
@@ -67,18 +66,4 @@ pub fn field(line: &[u8], places: Places, k: usize) -> &[u8]
         return &line[0..0];
     }
     &line[start..next - 1]
-}
-
-// Where the field that starts at a place ends.
-pub fn end_of(line: &[u8], start: usize) -> usize
-    ensures { λ r. ⌜ r ≡ start + width (drop start (now (line .entry))) ⌝ }
-{
-    let mut end = start;
-    while end < line.len() {
-        if line[end] == 44 {
-            return end;
-        }
-        end += 1;
-    }
-    end
 }

@@ -1,5 +1,5 @@
--- "numbers are decimal without leading zeros": at least one digit, and no limit to how many. A digit is its byte, 48 to 57.
-use Rattle.laws.specs.{ℕ, _+_, _*_, _-_, Bool, true, false, cond, not, _&&_, List, [], _∷_, ltb, leb, eqb}
+-- "numbers are decimal without leading zeros": at least one digit, and no limit to how many.
+use Rattle.laws.specs.{code, ℕ, _+_, _*_, _-_, Bool, true, false, cond, not, _&&_, List, [], _∷_, ltb, leb, eqb}
 use Rattle.text_number.specs.declared.Number.{Number}
 
 -- what is below has room for one digit more
@@ -14,7 +14,7 @@ appendDigit Number.Malformed d = Number.Malformed
 
 -- a number with one byte more
 unfoldable pub append : Number → ℕ → Number
-append n b = cond (leb 48 b && leb b 57) (appendDigit n (b - 48)) Number.Malformed
+append n b = cond (leb (code "0") b && leb b (code "9")) (appendDigit n (b - code "0")) Number.Malformed
 
 unfoldable pub more : Number → List ℕ → Number
 more n [] = n
@@ -24,7 +24,7 @@ more n (b ∷ bs) = more (append n b) bs
 unfoldable pub headed : List ℕ → Bool
 headed [] = false
 headed (b ∷ []) = true
-headed (b ∷ c ∷ bs) = not (eqb b 48)
+headed (b ∷ c ∷ bs) = not (eqb b (code "0"))
 
 unfoldable pub numberIn : List ℕ → Number
 numberIn s = cond (headed s) (more (Number.Value 0) s) Number.Malformed

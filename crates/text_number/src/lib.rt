@@ -16,16 +16,16 @@ const ROOM: u64 = 100000000000000;
 pub fn append(number: Number, byte: u8) -> Number
     ensures { λ r. ⌜ r ≡ append number byte ⌝ }
 {
-    if byte < 48 {
+    if byte < b'0' {
         return Number::Malformed;
     }
-    if 57 < byte {
+    if b'9' < byte {
         return Number::Malformed;
     }
     match number {
         Number::Value(v) => {
             if v < ROOM {
-                return Number::Value(v * 10 + (byte - 48) as u64);
+                return Number::Value(v * 10 + (byte - b'0') as u64);
             }
             Number::Large
         }
@@ -56,7 +56,7 @@ pub fn read(bytes: &[u8]) -> Number
     if bytes.len() == 1 {
         return more(Number::Value(0), bytes);
     }
-    if bytes[0] == 48 {
+    if bytes[0] == b'0' {
         return Number::Malformed;
     }
     more(Number::Value(0), bytes)

@@ -4,15 +4,16 @@ use lib.IntN.{pos, negsuc}
 use Rattle.laws.specs.{sumOf, eachAtMost, allOf, sumBy}
 use Rattle.refusals.specs.{weighed, weighAll, smallest}
 use Rattle.units.specs.{treesOf, residueOf, tonnes, value, changeBetween}
-use Rattle.forest.specs.{Forest}
+use Rattle.forest.specs.{lettersOf, Forest}
 use Rattle.schedules.specs.{placeSix, schedule6}
-use Rattle.table_parts.specs.{lengthOf}
+use Rattle.text.specs.{widthTo}
+use Rattle.table_parts.specs.{columnNumber, lengthOf}
 use Rattle.table.specs.{hasColumns, isTable}
 use Rattle.table_lent.specs.{ownColumn}
 use Rattle.rates.specs.{consulted, cellAt, rateSix, shareAfter}
-use Rattle.stocks.specs.{treesOn, residueOn, subStock, areaStock}
+use Rattle.stocks.specs.{treesOn, oneResidueOn, residueOn, subStock, areaStock}
 use Rattle.line_entry.specs.{Act, AreaAct, on}
-use Rattle.holding.specs.{emptyHolding, placeFrom, findArea, findSub}
+use Rattle.holding.specs.{emptyHolding, placeFrom, findArea, findSub, residuesIn}
 use Rattle.holding_look.specs.{areaAt, subAt, withSub}
 use Rattle.statement_carried.specs.{yearsCarried, amountsCarried, fieldsCarried}
 use Rattle.step_outcome.specs.{answered, placed, areaCases}
@@ -68,5 +69,5 @@ AllHold [] = Unit
 AllHold (e ∷ es) = (reportedFrom (e .area) nothingReported (outcomesFrom (e .table) emptyHolding (e .entries)) ≡ e .reported) × AllHold es
 
 pub examples-hold : AllHold examples
-unfolding allOf sumOf eachAtMost sumBy weighed weighAll smallest treesOf residueOf tonnes value changeBetween placeSix schedule6 hasColumns isTable lengthOf ownColumn consulted cellAt rateSix shareAfter treesOn residueOn subStock areaStock placeFrom findArea findSub areaAt subAt withSub yearsCarried amountsCarried fieldsCarried answered placed areaCases openCases opened addCases addedArea added clearCases clearedSub clearedArea cleared plantCases plantedSub plantedArea planted fileCases changeOf filedArea returnOf filed withdrawCases withdrawnArea withdrawn applied stepped outcomesFrom reportedWith reportedFrom
+unfolding allOf sumOf eachAtMost sumBy weighed weighAll smallest treesOf residueOf tonnes value changeBetween placeSix schedule6 hasColumns isTable widthTo lettersOf columnNumber lengthOf ownColumn consulted cellAt rateSix shareAfter treesOn residuesIn oneResidueOn residueOn subStock areaStock placeFrom findArea findSub areaAt subAt withSub yearsCarried amountsCarried fieldsCarried answered placed areaCases openCases opened addCases addedArea added clearCases clearedSub clearedArea cleared plantCases plantedSub plantedArea planted fileCases changeOf filedArea returnOf filed withdrawCases withdrawnArea withdrawn applied stepped outcomesFrom reportedWith reportedFrom
 examples-hold = (refl, (refl, tt))

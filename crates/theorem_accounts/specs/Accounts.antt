@@ -1,8 +1,7 @@
 -- Demand 3 for every list of entries: "Take every list of these steps from an empty holding, refused ones included: opening, sub-area,
 -- clearing, planting, return and withdrawal entries .. Each step gets the holding that the last one left .. and a single table set serves all."
-use Rattle.laws.specs.{ℕ, _*_, _≤_, _≡_, Bool, true, false, List, []}
+use Rattle.laws.specs.{ℕ, _*_, _≤_, _≡_, Bool, true, false, List, [], pos, natAbs, _-ℤ_, _*ℤ_}
 use mathlib.Core.Option.{Option, none, some}
-use lib.IntN.{pos, natAbs, _-ℤ_, _*ℤ_}
 use Rattle.line_entry.specs.{AreaAct}
 use Rattle.holding.specs.{Area, Holding, emptyHolding, subsOf, findArea, Found}
 use Rattle.holding_look.specs.{known, areaAt}
@@ -10,7 +9,7 @@ use Rattle.step_outcome.specs.{Outcome}
 use Rattle.step.specs.{holdingFrom, outcomesFrom}
 use Rattle.theorem_ledger.specs.{Row, rowNumber, ledgerOf}
 use Rattle.theorem_accounts.specs.Reports.{Reported, nothingReported, reportedFrom}
-use Rattle.theorem_accounts.specs.Running.{total, lowest}
+use Rattle.theorem_accounts.specs.Reports.{total, lowest}
 use Rattle.theorem_accounts.specs.Feeding.{under, fed, changesFrom, returnsIn}
 
 -- what the engine holds after a list of entries, and what it answered

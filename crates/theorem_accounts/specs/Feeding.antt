@@ -1,7 +1,6 @@
 -- What the plain ledger is fed, and the changes that it gives for an area.
-use Rattle.laws.specs.{ℕ, Bool, true, false, cond, _&&_, List, [], _∷_, _++_, map, eqb, length, keep}
+use Rattle.laws.specs.{ℕ, Bool, true, false, cond, _&&_, List, [], _∷_, _++_, map, eqb, length, keep, ℤ}
 use mathlib.Core.Option.{Option, none, some}
-use lib.IntN.{ℤ}
 use Rattle.refusals.specs.{Verdict}
 use Rattle.line_entry.specs.{Act, AreaAct}
 use Rattle.step_outcome.specs.{Outcome}

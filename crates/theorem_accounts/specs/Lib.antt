@@ -1,11 +1,8 @@
 pub mod Reports
-pub mod Running
 pub mod Feeding
 pub mod Accounts
-pub use Reports.{Reported, nothingReported}
-unfoldable pub use Reports.{reportedWith, reportedFrom}
-pub use Running.{runningSums}
-unfoldable pub use Running.{total, sumsFrom, lowest}
+pub use Reports.{Reported, nothingReported, runningSums}
+unfoldable pub use Reports.{reportedWith, reportedFrom, total, sumsFrom, lowest}
 pub use Feeding.{isAccepted, changeBy, changeFor, isReturn, isReturnOf}
 unfoldable pub use Feeding.{under, fed, acceptedOf, changesFrom, returnsIn}
 pub use Accounts.{holdingAfter, outcomesOf, stepsOf, ledgerAfter, reportedFor, Accounted, Shown}

@@ -1,8 +1,8 @@
 -- What was reported for an area, read off the outcomes of a list of steps, the first first.
-use Rattle.laws.specs.{ℕ, _+_, cond, List, [], _∷_, _++_, foldl, eqb}
-use lib.IntN.{ℤ}
+use Rattle.laws.specs.{ℕ, _+_, cond, List, [], _∷_, _++_, foldl, eqb, ℤ, pos, _+ℤ_}
 use Rattle.units.specs.{value}
 use Rattle.step_outcome.specs.{Report, Outcome}
+use Rattle.theorem_ledger.specs.{lesser}
 
 -- "The tonnes a return reports are its change. Units received and units surrendered are the totals of what was reported for the area as
 -- received and as due. Its balance is the last one reported for it, nought before any and after W."
@@ -34,3 +34,18 @@ reportedWith n before (Report.Withdrawal area due) =
 
 unfoldable pub reportedFrom : ℕ → Reported → List Outcome → Reported
 reportedFrom n before outcomes = foldl (λ (so-far : Reported) (outcome : Outcome). reportedWith n so-far (outcome .report)) before outcomes
+
+unfoldable pub total : List ℤ → ℤ
+total changes = foldl _+ℤ_ (pos 0) changes
+
+-- the sum after each change, from a sum before the first
+unfoldable pub sumsFrom : ℤ → List ℤ → List ℤ
+sumsFrom sum [] = []
+sumsFrom sum (x ∷ changes) = (sum +ℤ x) ∷ sumsFrom (sum +ℤ x) changes
+
+abbrev pub runningSums : List ℤ → List ℤ
+runningSums changes = sumsFrom (pos 0) changes
+
+-- "the lowest value the running sum ever had, nought counted"
+unfoldable pub lowest : List ℤ → ℤ
+lowest changes = foldl lesser (pos 0) (runningSums changes)

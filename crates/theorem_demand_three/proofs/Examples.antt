@@ -6,15 +6,15 @@ use Rattle.refusals.specs.{weighed, weighAll, smallest, written, bufferAfter, R
 use Rattle.units.specs.{treesOf, residueOf, tonnes, value, changeBetween}
 use Rattle.forest.specs.{lettersOf, beside, letterNames, regionNames, named, Forest}
 use Rattle.schedules.specs.{placeSix, schedule6}
-use Rattle.table_parts.specs.{lengthOf}
+use Rattle.table_parts.specs.{columnNumber, lengthOf}
 use Rattle.table.specs.{hasColumns, isTable}
 use Rattle.table_lent.specs.{ownColumn}
 use Rattle.rates.specs.{consulted, cellAt, rateSix, shareAfter}
-use Rattle.text.specs.{digitsIn, digits}
+use Rattle.text.specs.{widthTo, digitsIn, digits}
 use Rattle.text_number.specs.{append, more, headed, numberIn}
-use Rattle.stocks.specs.{treesOn, residueOn, subStock, areaStock}
+use Rattle.stocks.specs.{treesOn, oneResidueOn, residueOn, subStock, areaStock}
 use Rattle.line_entry.specs.{Act, on}
-use Rattle.holding.specs.{placeFrom, findArea, findSub}
+use Rattle.holding.specs.{placeFrom, findArea, findSub, residuesIn}
 use Rattle.holding_look.specs.{areaAt, subAt, withSub}
 use Rattle.statement_carried.specs.{yearsCarried, amountsCarried, fieldsCarried, residueCarried, subCarried, areaCarried, carried}
 use Rattle.step_outcome.specs.{Outcome, answered, placed, areaCases}
@@ -26,9 +26,9 @@ use Rattle.step_file.specs.{fileCases, changeOf, filedArea, returnOf, filed}
 use Rattle.step_withdraw.specs.{withdrawCases, withdrawnArea, withdrawn}
 use Rattle.step.specs.{applied, stepped}
 use Rattle.theorem_accounts.specs.{reportedWith, reportedFrom}
-use Rattle.statement_format.specs.{startText, numberText, typeText, joined, texts, residueText, subText, yearsText, amountsText, areaText, statementOf}
+use Rattle.statement_format.specs.{startText, numberText, typeText, joined, texts, residueText, residuesText, subText, yearsText, amountsText, areaText, statementOf}
 use Rattle.statement_write.specs.{writable}
-use Rattle.statement_cursor.specs.{widthTo, fieldOf, fieldBy, numberBefore, numberAt, typeBefore, typeAt, startAt, lineAt}
+use Rattle.statement_cursor.specs.{fieldOf, fieldBy, numberBefore, numberAt, typeBefore, typeAt, startAt, lineAt}
 use Rattle.statement_parse.specs.{residueAt, itemsFrom, subsFrom, subsAt, yearsAt, amountsAt, areasFrom, areasAt, holdingAt}
 use Rattle.statement_parse.specs.Reading as Reading
 use Rattle.statement.specs.{acceptable, readOf}
@@ -80,5 +80,5 @@ pub record Printed : Type 0 where
   pub statement : statementOf (holdingAfter table steps) ≡ joined pieces
 
 pub printed-case : Printed
-unfolding allOf some every distinct sumOf eachAtMost sumBy weighed weighAll smallest written bufferAfter treesOf residueOf tonnes value changeBetween lettersOf beside letterNames regionNames named placeSix schedule6 hasColumns isTable lengthOf ownColumn consulted cellAt rateSix shareAfter digitsIn digits append more headed numberIn treesOn residueOn subStock areaStock placeFrom findArea findSub areaAt subAt withSub yearsCarried amountsCarried fieldsCarried residueCarried subCarried areaCarried carried answered placed areaCases openCases opened addCases addedArea added clearCases clearedSub clearedArea cleared plantCases plantedSub plantedArea planted fileCases changeOf filedArea returnOf filed withdrawCases withdrawnArea withdrawn applied stepped reportedWith reportedFrom startText numberText typeText joined texts residueText subText yearsText amountsText areaText statementOf writable widthTo fieldOf fieldBy numberBefore numberAt typeBefore typeAt startAt lineAt residueAt Reading.subLineAt itemsFrom subsFrom subsAt yearsAt amountsAt Reading.areaLineAt areasFrom areasAt holdingAt acceptable readOf resultOf holdingFrom outcomesFrom
+unfolding allOf some every distinct sumOf eachAtMost sumBy weighed weighAll smallest written bufferAfter treesOf residueOf tonnes value changeBetween lettersOf beside letterNames regionNames named placeSix schedule6 hasColumns isTable columnNumber lengthOf ownColumn consulted cellAt rateSix shareAfter digitsIn digits append more headed numberIn treesOn residuesIn oneResidueOn residueOn subStock areaStock placeFrom findArea findSub areaAt subAt withSub yearsCarried amountsCarried fieldsCarried residueCarried subCarried areaCarried carried answered placed areaCases openCases opened addCases addedArea added clearCases clearedSub clearedArea cleared plantCases plantedSub plantedArea planted fileCases changeOf filedArea returnOf filed withdrawCases withdrawnArea withdrawn applied stepped reportedWith reportedFrom startText numberText typeText joined texts residueText residuesText subText yearsText amountsText areaText statementOf writable widthTo fieldOf fieldBy numberBefore numberAt typeBefore typeAt startAt lineAt residueAt Reading.subLineAt itemsFrom subsFrom subsAt yearsAt amountsAt Reading.areaLineAt areasFrom areasAt holdingAt acceptable readOf resultOf holdingFrom outcomesFrom
 printed-case = record { verdicts = refl; reported = refl; statement = refl }

@@ -5,6 +5,7 @@ use lib.Seq.{split-at}
 use Rattle.text.specs.{digits}
 use Rattle.holding.specs.{Residue, Sub, Area, Holding, areasOf, subsOf, emptyArea}
 use Rattle.statement_format.specs.{startText, numberText, typeText, joined, texts, residueText, subText, flag, yearsText, amountsText, areaText, statementOf}
+use Rattle.statement_format.proofs.Residues.{sub-text}
 use Rattle.theorem_demand_three.specs.{areaLine}
 
 -- bytes that end with a line's end
@@ -42,16 +43,16 @@ last-ends : (pieces : List (List ℕ)) (last : List ℕ) → EndsLine last → E
 unfolding joined
 last-ends pieces last e = pieces-end pieces (last ∷ []) (ends-last e)
 
-residue-ends : (residue : Residue) → EndsLine (residueText residue)
+residue-ends : (residue : Residue) → EndsLine (residueText residue 10)
 unfolding residueText
 residue-ends residue = last-ends (typeText (residue .forest) 44 ∷ numberText (residue .age) 44 ∷ []) _ (number-ends (residue .year))
 
 sub-ends : (sub : Sub) → EndsLine (subText sub)
-unfolding subText
 sub-ends sub =
-    last-ends
+    rw sub-text
+    (last-ends
     (startText 83 ∷ numberText (sub .number) 44 ∷ numberText (sub .tenths .0) 44 ∷ typeText (sub .forest) 44 ∷ numberText (sub .planted) 44 ∷ []) _
-    (residue-ends (sub .residue))
+    (residue-ends (sub .residue)))
 
 count-ends : (area : Area) → EndsLine (joined (numberText (area .count) 10 ∷ texts subText (subsOf area) ∷ []))
 unfolding joined

@@ -9,18 +9,8 @@ use Rattle.theorem_accounts.specs.{Reported}
 unfoldable pub areaLine : (number opening openYear latest withdrawn returns stock received surrendered subs : ℕ) → List ℕ
 areaLine number opening openYear latest withdrawn returns stock received surrendered subs =
     joined
-    (startText 65
-    ∷ numberText number 44
-    ∷ numberText opening 44
-    ∷ numberText openYear 44
-    ∷ numberText latest 44
-    ∷ numberText withdrawn 44
-    ∷ numberText returns 44
-    ∷ numberText stock 44
-    ∷ numberText received 44
-    ∷ numberText surrendered 44
-    ∷ numberText subs 10
-    ∷ [])
+    (startText 65 ∷ numberText number 44 ∷ numberText opening 44 ∷ numberText openYear 44 ∷ numberText latest 44 ∷ numberText withdrawn 44
+    ∷ numberText returns 44 ∷ numberText stock 44 ∷ numberText received 44 ∷ numberText surrendered 44 ∷ numberText subs 10 ∷ [])
 
 -- the line of the area n stands in the statement, behind a line's end (byte 10): the totals as reported, the rest as the ledger has it, which
 -- keeps neither the open nor the latest year

@@ -13,7 +13,8 @@ use Rattle.rates.proofs.Ceiling.{six-at-most}
 use Rattle.holding.specs.{Sub, Area, mostSubs, subsOf}
 use Rattle.statement_carried.specs.{stockForSub}
 use Rattle.step_file.specs.{changeOf}
-use Rattle.stocks.specs.{treesOn, residueOn, subStock, areaStock}
+use Rattle.stocks.specs.{treesOn, oneResidueOn, residueOn, subStock, areaStock}
+use Rattle.stocks.proofs.Residues.{residue-alone}
 use Rattle.theorem_keeping.specs.{Each}
 use Rattle.theorem_keeping.proofs.Within.{land-within}
 use Rattle.theorem_keeping.proofs.Lists.{each-so}
@@ -41,10 +42,10 @@ module _ (own : List ℕ) (table : isTable own ≡ true) where
         omega (arith, product-at-most _ _ 10 mostLand cellCeiling 10 land rate (omega arith))
 
     pub residue-at-most : residueOn own schedule6 sub y .0 ≤ 30000000000
-    unfolding residueOn residueOf
+    unfolding oneResidueOn residueOf
     residue-at-most =
         let rate = six-at-most own Kind.Residue (sub .residue .forest) (sub .residue .age) table in
-        omega (arith, product-at-most _ _ _ mostLand cellCeiling 10 land rate (share-at-most (y - sub .residue .year)))
+        rw residue-alone (omega (arith, product-at-most _ _ _ mostLand cellCeiling 10 land rate (share-at-most (y - sub .residue .year))))
 
     pub sub-at-most : subStock own schedule6 sub y .0 ≤ stockForSub
     unfolding subStock

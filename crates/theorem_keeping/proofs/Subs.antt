@@ -1,11 +1,12 @@
 -- The test of a sub-area of an area, read as facts and made from them; it looks at the area's opening and latest year alone, and stands
 -- where the latest year grows.
-use Rattle.laws.proofs.{ℕ, _≤_, max, Bool, true, false, cond, _≡_, refl, sym, [], _∷_, arith, eqb, leb, leb-true, le-leb, eqb-true, eq-eqb}
-use Rattle.laws.specs.{allOf}
+use Rattle.laws.proofs.{ℕ, _≤_, max, Bool, true, false, cond, _≡_, refl, sym, _∙_, arith, leb-true, le-leb, eqb-true, eq-eqb}
+use Rattle.laws.specs.{every}
 use Rattle.laws.proofs.Tests.{AllTrue, all-true, true-all}
 use Rattle.ranges.specs.{isBare, isSub, isLand, isPlanted}
-use Rattle.holding.specs.{Residue, Sub, Area}
+use Rattle.holding.specs.{Residue, Sub, Area, residuesIn}
 use Rattle.statement_carried.specs.{residueCarried, subCarried}
+use Rattle.statement_carried.proofs.Residues.{nought, ranged, residues-carried}
 use Rattle.theorem_keeping.proofs.Tests.{clash}
 
 pub record ResidueKept (opening latest : ℕ) (residue : Residue) : Type 0 where
@@ -34,32 +35,28 @@ module _ (opening latest later : ℕ) (grows : latest ≤ later) where
 
 module _ (area : Area) where
   module _ (residue : Residue) where
-    abbrev nought : Bool
-    nought = allOf (eqb (residue .age) 0 ∷ eqb (residue .year) 0 ∷ [])
-
-    abbrev ranged : Bool
-    ranged = allOf (leb (area .opening) (residue .year) ∷ leb (residue .year) (area .latest) ∷ leb (residue .age) 299 ∷ [])
-
-    residue-read : residueCarried area residue ≡ true → ResidueKept (area .opening) (area .latest) residue
-    unfolding residueCarried AllTrue
-    residue-read e = record { none = λ b. no-residue (isBare (residue .forest)) b e; left = λ b. some-residue (isBare (residue .forest)) b e }
+    residue-read : every (residueCarried area) (residuesIn residue) ≡ true → ResidueKept (area .opening) (area .latest) residue
+    unfolding AllTrue
+    residue-read e =
+        let t = sym (residues-carried area residue) ∙ e in
+        record { none = λ b. no-residue (isBare (residue .forest)) b t; left = λ b. some-residue (isBare (residue .forest)) b t }
       where
-        no-residue : (bare : Bool) → bare ≡ true → cond bare nought ranged ≡ true → (residue .age ≡ 0) × (residue .year ≡ 0)
+        no-residue : (bare : Bool) → bare ≡ true → cond bare (nought residue) (ranged area residue) ≡ true → (residue .age ≡ 0) × (residue .year ≡ 0)
         no-residue true b e = let t = all-true _ e in (eqb-true _ _ (t .0), eqb-true _ _ (t .1 .0))
         no-residue false b e = clash (sym b)
 
-        some-residue : (bare : Bool) → bare ≡ false → cond bare nought ranged ≡ true
+        some-residue : (bare : Bool) → bare ≡ false → cond bare (nought residue) (ranged area residue) ≡ true
             → (area .opening ≤ residue .year) × (residue .year ≤ area .latest) × (residue .age ≤ 299)
         some-residue true b e = clash b
         some-residue false b e = let t = all-true _ e in (leb-true _ _ (t .0), leb-true _ _ (t .1 .0), leb-true _ _ (t .1 .1 .0))
 
-    residue-carried : ResidueKept (area .opening) (area .latest) residue → residueCarried area residue ≡ true
-    unfolding residueCarried AllTrue
-    residue-carried k = go (isBare (residue .forest)) (k .none) (k .left)
+    residue-carried : ResidueKept (area .opening) (area .latest) residue → every (residueCarried area) (residuesIn residue) ≡ true
+    unfolding AllTrue
+    residue-carried k = residues-carried area residue ∙ go (isBare (residue .forest)) (k .none) (k .left)
       where
         go : (bare : Bool) → (bare ≡ true → (residue .age ≡ 0) × (residue .year ≡ 0))
             → (bare ≡ false → (area .opening ≤ residue .year) × (residue .year ≤ area .latest) × (residue .age ≤ 299))
-            → cond bare nought ranged ≡ true
+            → cond bare (nought residue) (ranged area residue) ≡ true
         go true none left = let h = none refl in true-all _ (eq-eqb _ _ (h .0), (eq-eqb _ _ (h .1), tt))
         go false none left = let h = left refl in true-all _ (le-leb _ _ (h .0), (le-leb _ _ (h .1), (le-leb _ _ (h .2), tt)))
 

@@ -1,5 +1,3 @@
-pub mod Unused
 pub mod Reached
-pub use Unused.{Tidy, TidyArea, TidyHolding}
-unfoldable pub use Unused.{Each}
-pub use Reached.{Kept}
+pub use Reached.{Tidy, TidyArea, TidyHolding, Kept}
+unfoldable pub use Reached.{Each}

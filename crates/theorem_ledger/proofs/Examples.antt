@@ -3,13 +3,15 @@ use Rattle.laws.proofs.{ℕ, _≡_, refl, Bool, true, false, List, [], _∷_, m
 use lib.IntN.{ℤ, pos, negsuc}
 use Rattle.laws.specs.{sumOf, sumBy}
 use Rattle.units.specs.{treesOf, residueOf, tonnes, nearestTonne}
-use Rattle.forest.specs.{Forest, Region}
+use Rattle.forest.specs.{lettersOf, Forest, Region}
 use Rattle.schedules.specs.{joined, placesFrom, stock6, residue6, placeSix, schedule6}
-use Rattle.table_parts.specs.{lengthOf}
+use Rattle.text.specs.{widthTo}
+use Rattle.table_parts.specs.{columnNumber, lengthOf}
 use Rattle.table_lent.specs.{ownColumn}
 use Rattle.rates.specs.{consulted, cellAt, rateSix, shareAfter}
 use Rattle.line_entry.specs.{Act, AreaAct, on}
-use Rattle.stocks.specs.{treesOn, residueOn, subStock}
+use Rattle.holding.specs.{residuesIn}
+use Rattle.stocks.specs.{treesOn, oneResidueOn, residueOn, subStock}
 use Rattle.theorem_ledger.specs.{change, Row, entered, noted, ledgerOf}
 
 -- the figures of a row
@@ -96,5 +98,5 @@ AllHold [] = Unit
 AllHold (e ∷ es) = (map figures (ledgerOf (e .table) (e .steps)) ≡ e .area ∷ []) × AllHold es
 
 pub examples-hold : AllHold examples
-unfolding sumOf sumBy treesOf residueOf tonnes nearestTonne joined placesFrom stock6 residue6 placeSix schedule6 lengthOf ownColumn consulted cellAt rateSix shareAfter treesOn residueOn subStock change entered noted
+unfolding sumOf sumBy treesOf residueOf tonnes nearestTonne joined placesFrom stock6 residue6 placeSix schedule6 widthTo lettersOf columnNumber lengthOf ownColumn consulted cellAt rateSix shareAfter treesOn residuesIn oneResidueOn residueOn subStock change entered noted
 examples-hold = (refl, (refl, (refl, tt)))

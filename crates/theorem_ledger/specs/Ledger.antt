@@ -1,7 +1,7 @@
 -- "Plain ledger for demand 3": "The ledger has the same tables and is fed each step and whether it was accepted. It starts empty; a refused
 -- step or a read-back changes nothing in it." `own` is the participant's table; the default is Schedule 6.
-use Rattle.laws.specs.{ℕ, suc, _+_, _-_, Bool, true, false, cond, List, [], _∷_, _++_, sumBy}
-use lib.IntN.{ℤ, pos, _+ℤ_, _-ℤ_}
+-- A sub's residues are read through `subStock` alone.
+use Rattle.laws.specs.{ℕ, suc, _+_, _-_, Bool, true, false, cond, List, [], _∷_, _++_, sumBy, ℤ, pos, _+ℤ_, _-ℤ_, eqb}
 use lib.Signed.{leZ}
 use Rattle.units.specs.{nearestTonne}
 use Rattle.forest.specs.{Forest}
@@ -9,7 +9,10 @@ use Rattle.schedules.specs.{schedule6}
 use Rattle.line_entry.specs.{Act, AreaAct}
 use Rattle.holding.specs.{Sub, noResidue, withTrees, withResidue}
 use Rattle.stocks.specs.{subStock}
-use Rattle.theorem_ledger.specs.Keyed.{change}
+
+unfoldable pub change : {A : Type 0} → (A → ℕ) → ℕ → (A → A) → List A → List A
+change numberOf n f [] = []
+change numberOf n f (a ∷ l) = cond (eqb (numberOf a) n) (f a ∷ l) (a ∷ change numberOf n f l)
 
 -- an area as the ledger keeps it
 pub record Row : Type 0 where

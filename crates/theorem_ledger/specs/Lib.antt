@@ -1,5 +1,3 @@
-pub mod Keyed
 pub mod Ledger
-unfoldable pub use Keyed.{change}
+unfoldable pub use Ledger.{change, entered, noted}
 pub use Ledger.{Row, rowNumber, subNumber, rowWith, opened, added, withSubs, cleared, planted, lesser, stockAfter, changeOf, returned, withdrawnRow, notedStep, ledgerOf}
-unfoldable pub use Ledger.{entered, noted}

@@ -1,6 +1,5 @@
 -- The examples that document 01 marks, each with what it says.
-use Rattle.laws.specs.{ℕ, _≡_, List, [], _∷_}
-use lib.IntN.{ℤ, pos, negsuc}
+use Rattle.laws.specs.{ℕ, _≡_, List, [], _∷_, ℤ, pos, negsuc}
 use Rattle.units.specs.{nearestTonne}
 use Rattle.refusals.specs.{Refusal}
 use Rattle.forest.specs.{Forest, Region}

@@ -2,9 +2,11 @@
 use Rattle.laws.proofs.{ℕ, suc, _+_, _<_, _≡_, refl, sym, ap, _∙_, Bool, true, false, cond, List, [], _∷_, _++_, append-assoc, ⊎-elim, arith, lt-leb, ne-eqb, eqb-false, leb-false, leb, eqb, length, take, drop, length-append, length-take, length-drop, drop-drop}
 use lib.Seq.{take-at}
 use Rattle.laws.proofs.Order.{below-or-not}
-use Rattle.statement_cursor.specs.{widthTo, fieldOf, fieldBy}
+use Rattle.text.specs.{widthTo}
+use Rattle.text.proofs.Widths.{width-split}
+use Rattle.statement_cursor.specs.{fieldOf, fieldBy}
 use Rattle.theorem_round_trips.proofs.Places.{Stands}
-use Rattle.theorem_round_trips.proofs.Widths.{High, width-high, width-split}
+use Rattle.theorem_round_trips.proofs.Widths.{High, width-high}
 
 pub positive : (n : ℕ) → (n ≡ 0 → ⊥) → 0 < n
 positive n h = ⊎-elim (λ l. absurd (h (omega arith))) (λ l. omega arith) (below-or-not n 1)

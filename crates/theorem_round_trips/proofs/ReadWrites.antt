@@ -3,6 +3,7 @@
 use Rattle.laws.proofs.{ℕ, zero, suc, _≤_, _<_, _≡_, refl, subst, List, arith, eqb, take}
 use Rattle.holding.specs.{mostAreas, mostSubs, emptySub, emptyArea}
 use Rattle.statement_format.specs.{numberText, joined, texts, flag, residueText, subText, yearsText, amountsText, areaText, statementOf}
+use Rattle.statement_format.proofs.Residues.{sub-text}
 use Rattle.statement_cursor.specs.{numberAt}
 use Rattle.statement_parse.specs.{most8, most16, most32, mostRead, residueAt, subLineAt, subsFrom, subsAt, yearsAt, amountsAt, areaLineAt, areasFrom, areasAt, holdingAt}
 use Rattle.theorem_keeping.specs.{TidyArea, TidyHolding}
@@ -12,7 +13,7 @@ use Rattle.theorem_round_trips.proofs.Starts.{start-there, line-there}
 use Rattle.theorem_round_trips.proofs.Items.{filled-tidy, filled-each, filled-there}
 
 module _ (s : List ℕ) (at : ℕ) where
-  residue-there : 0 < residueAt s at .next → There s at (residueText (residueAt s at .residue)) (residueAt s at .next)
+  residue-there : 0 < residueAt s at .next → There s at (residueText (residueAt s at .residue) 10) (residueAt s at .next)
   unfolding residueAt residueText joined
   residue-there h =
       let year = number-there s _ 10 most16 h in
@@ -25,7 +26,7 @@ module _ (s : List ℕ) (at : ℕ) where
 
 module _ (s : List ℕ) (at : ℕ) where
   sub-there : 0 < subLineAt s at .next → There s at (subText (subLineAt s at .sub)) (subLineAt s at .next)
-  unfolding subLineAt subText joined
+  unfolding subLineAt joined
   sub-there h =
       let residue = residue-there s _ h in
       let planted = number-there s _ 44 most16 (residue .started) in
@@ -36,10 +37,11 @@ module _ (s : List ℕ) (at : ℕ) where
       record {
         started = start .started;
         stands =
-            stands-then (start .stands)
+            rw sub-text
+            (stands-then (start .stands)
             (stands-then (number .stands)
             (stands-then (tenths .stands)
-            (stands-then (type .stands) (stands-then (planted .stands) (stands-then (residue .stands) (stands-none s _))))));
+            (stands-then (type .stands) (stands-then (planted .stands) (stands-then (residue .stands) (stands-none s _)))))));
       }
 
 flag-back : (v : ℕ) → v ≤ 1 → v ≡ flag (eqb v 1)

@@ -2,6 +2,7 @@
 use Rattle.laws.proofs.{ℕ, _+_, _≤_, _<_, _≡_, refl, ap, Bool, true, false, List, [], _∷_, arith, eqb, length, take}
 use Rattle.holding.specs.{Residue, Sub, Area, Holding, mostAreas, mostSubs, areasOf, subsOf, emptySub, emptyArea}
 use Rattle.statement_format.specs.{startText, numberText, typeText, texts, flag, residueText, subText, yearsText, amountsText, areaText, statementOf}
+use Rattle.statement_format.proofs.Residues.{subPieces, sub-text}
 use Rattle.statement_parse.specs.{SubRead, AmountsRead, AreaRead, most8, most16, most32, mostRead, residueAt, subLineAt, subsFrom, subsAt, yearsAt, amountsAt, areaLineAt, areasFrom, areasAt, holdingAt}
 use Rattle.theorem_keeping.specs.{Kept}
 use Rattle.theorem_keeping.proofs.Register.{Register}
@@ -13,7 +14,7 @@ use Rattle.theorem_round_trips.proofs.Items.{register-here}
 use Rattle.theorem_round_trips.proofs.Fitting.{SubFits, AreaFits, holding-fits}
 
 module _ (s : List ℕ) (at last : ℕ) where
-  residue-here : (residue : Residue) → residue .age ≤ most16 → residue .year ≤ most16 → 0 < at → Stands s at (residueText residue) last
+  residue-here : (residue : Residue) → residue .age ≤ most16 → residue .year ≤ most16 → 0 < at → Stands s at (residueText residue 10) last
       → residueAt s at ≡ record { residue = residue; next = last }
   unfolding residueAt residueText
   residue-here residue age year started stands =
@@ -27,12 +28,9 @@ module _ (s : List ℕ) (at last : ℕ) where
 
 module _ (s : List ℕ) (at last : ℕ) where
   sub-here : (sub : Sub) → SubFits sub → 0 < at → Stands s at (subText sub) last → subLineAt s at ≡ record { sub = sub; next = last }
-  unfolding subLineAt subText
+  unfolding subLineAt
   sub-here sub fits started stands =
-      let p0 : Pieces s at
-      (startText 83 ∷ numberText (sub .number) 44 ∷ numberText (sub .tenths .0) 44 ∷ typeText (sub .forest) 44 ∷ numberText (sub .planted) 44
-      ∷ residueText (sub .residue) ∷ [])
-      last = record { all = stands } in
+      let p0 : Pieces s at (subPieces sub (residueText (sub .residue) 10)) last = record { all = rw sub-text at stands } in
       let p1 = piece-rest p0 in
       let p2 = piece-rest p1 in
       let p3 = piece-rest p2 in

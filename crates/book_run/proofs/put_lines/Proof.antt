@@ -1,17 +1,18 @@
--- `book_run::put_lines` meets its contract. The loop's invariant: what is listed from here on, put behind what was put, makes the whole listing.
+-- `book_run::put_lines` meets its contract. The loop's invariant: what the lines from here on print, put behind what was put, is what all print, and
+-- their run is the run of all.
 use Rattle.laws.proofs.{ℕ, _+_, _-_, _≤_, _≡_, refl, sym, ap, _∙_, ⊎-elim, List, [], arith, length, take, drop, needs}
 use native.Mathlib.Nat.{sub-zero}
-use Rattle.text.specs.{Wrote}
-use Rattle.text.proofs.Writes.{wrote-then, wrote-as, wrote-length}
+use Rattle.text.specs.{greatest, lineEnd, Wrote}
+use Rattle.text.proofs.Widths.{end-inside}
+use Rattle.text.proofs.Writes.{wrote-none, wrote-then, wrote-as, wrote-length}
 use Rattle.holding.specs.{Holding}
 use Rattle.holding_look.specs.{areaAt}
 use Rattle.holding_look.proofs.Laws.{area-here, area-out, area-nowhere}
 use Rattle.step_outcome.specs.{placed}
 use Rattle.step_outcome.proofs.Laws.{placed-here, placed-out, placed-nowhere}
 use Rattle.table.specs.{longestTable}
-use Rattle.book_listing.specs.{linesOf, Run, start, listFrom, longestBook}
-use Rattle.book_listing.proofs.Lines.{end-within}
-use Rattle.book_listing.proofs.Folding.{from-line, from-none}
+use Rattle.book_listing.specs.{linesOf, Run, start, runFrom, printedFrom, longestBook}
+use Rattle.book_listing.proofs.Folding.{from-line, run-line, from-none, run-none}
 use Rattle.book_run.proofs.Following.{placed-long, turn-is-of, turn-prints, turn-runs}
 use Rattle.book_run.proofs.put_lines.Tie as tie
 
@@ -19,8 +20,10 @@ abbrev Inv-loop : tie.InvT-loop
 Inv-loop book out₀ default holding₀ table₀ count₀ accepted₀ refused₀ at₀ i₀ out holding table count accepted refused at i =
     (i ≤ length book + 1) × (accepted + refused ≤ i) × (count ≤ longestTable) × (length table ≡ longestTable) × (length (holding .areas) ≡ 16) × (length out ≡ length out₀)
     × ((o : List ℕ) (p : ℕ)
-    → Wrote out at (listFrom (record { own = take count table; holding = holding; accepted = accepted; refused = refused }) (linesOf (drop i book))) o p
-    → Wrote out₀ 0 (listFrom start (linesOf book)) o p)
+    → Wrote out at (printedFrom (record { own = take count table; holding = holding; accepted = accepted; refused = refused }) (linesOf (drop i book))) o p
+    → Wrote out₀ 0 (printedFrom start (linesOf book)) o p)
+    × (runFrom (record { own = take count table; holding = holding; accepted = accepted; refused = refused }) (linesOf (drop i book)) ≡ runFrom start (linesOf book))
+    × (at ≤ greatest)
 
 abbrev μ-loop : tie.MeasureT-loop
 μ-loop book out₀ default holding₀ table₀ count₀ accepted₀ refused₀ at₀ i₀ out holding table count accepted refused at i = length book - i
@@ -36,8 +39,11 @@ loop-holds c = (
   refl,
   λ o p w.
       wrote-as
-      (ap (λ (h : Holding). listFrom (record { own = []; holding = h; accepted = 0; refused = 0 }) (linesOf (c .before .before .before .before .args .book .now)))
+      (ap (λ (h : Holding). printedFrom (record { own = []; holding = h; accepted = 0; refused = 0 }) (linesOf (c .before .before .before .before .args .book .now)))
       (c .empty-holding .ensures)) w,
+  ap (λ (h : Holding). runFrom (record { own = []; holding = h; accepted = 0; refused = 0 }) (linesOf (c .before .before .before .before .args .book .now)))
+      (c .empty-holding .ensures),
+  omega arith,
 )
 
 -- the line taken before the holding changes, the area looked up before it was taken, the line's end before that, and the loop's turn
@@ -61,7 +67,7 @@ ended : (c : tie.After-end-of Inv-loop μ-loop)
     → (c .before .before .loop .i ≤ c .end-of .result) × (c .end-of .result ≤ length (c .before .before .before .before .before .before .before .args .book .now))
 ended c =
     let l = c .before .before in
-    let within = end-within (l .before .before .before .before .before .args .book .now) (l .loop .i) (omega (arith, c .before .loop-test .taken)) in
+    let within = end-inside lineEnd (l .before .before .before .before .before .args .book .now) (l .loop .i) (omega (arith, c .before .loop-test .taken)) in
     omega (arith, c .end-of .ensures, within)
 
 -- no more lines were counted than the book has bytes
@@ -124,17 +130,20 @@ loop-again c =
           l .loop .inv .6 o p
           (wrote-as (from-line (runOf l) book (l .loop .i) _ (e .end-of .result) (e .before .loop-test .taken) (e .end-of .ensures) runs)
           (wrote-then (wrote-as prints put) w)),
+      run-line (runOf l) book (l .loop .i) _ (e .end-of .result) (e .before .loop-test .taken) (e .end-of .ensures) runs ∙ l .loop .inv .7,
+      omega (arith, put .place),
     )
-
-same-length : tie.Need-same-length Inv-loop μ-loop
-same-length c = wrote-length (c .before .before .put-end .ensures .wrote) ∙ c .before .before .before .before .before .loop .inv .5
 
 returns : tie.Need-returns Inv-loop μ-loop
 returns c =
-    let put = c .before .before in
-    let test = put .before .before in
-    let l = test .before in
-    l .loop .inv .6 _ _ (wrote-as (from-none (runOf l) _ (l .loop .i) (test .loop-test .left)) (put .put-end .ensures .wrote))
+    let l = c .before in
+    let last = run-none (runOf l) _ (l .loop .i) (c .loop-test .left) ∙ l .loop .inv .7 in
+    record {
+      wrote = l .loop .inv .6 _ _ (wrote-as (from-none (runOf l) _ (l .loop .i) (c .loop-test .left)) (wrote-none _ (l .loop .at) (omega (arith, l .loop .inv .5)) (l .loop .inv .8)));
+      holding = ap (λ (run : Run). run .holding) last;
+      accepted = ap (λ (run : Run). run .accepted) last;
+      refused = ap (λ (run : Run). run .refused) last;
+    }
 
 pub put-lines-spec : {M : Type 1} → Rattle.book_run.proofs.put_lines.Statement.statement M
 put-lines-spec = tie.close (tie.spec Inv-loop μ-loop (λ c κs. search needs) (λ c κs. search needs) loop-holds (λ c κs. search needs)
@@ -153,5 +162,5 @@ put-lines-spec = tie.close (tie.spec Inv-loop μ-loop (λ c κs. search needs) (
     (λ c. omega (arith, c .counted .ensures .1, few (c .before .before .before .before .before .before .before .before .before .before .before .before .before .before)))
     (λ c. omega (arith, c .counted .ensures .1))
     (λ c. omega (arith, c .counted .ensures .1, few (c .before .before .before .before .before .before .before .before .before .before .before .before .before .before)))
-    (λ c. search needs) (λ c. omega arith) (λ c. search needs) (λ c. search needs) add-i loop-less loop-again (λ c κs. search needs) same-length
-    returns)
+    (λ c. search needs) (λ c. omega arith) (λ c. search needs) (λ c. search needs) add-i loop-less loop-again
+    (λ c. c .before .loop .inv .5) returns)

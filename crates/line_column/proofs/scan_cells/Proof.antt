@@ -1,8 +1,8 @@
 -- `line_column::scan_cells` meets its contract. The loop's invariant: what was judged and kept so far, with the cells from here on, is what all of them give.
 use Rattle.laws.proofs.{_-_, _≤_, _≡_, refl, _∙_, _||_, arith, length, drop, sets}
-use Rattle.text.specs.{split}
+use Rattle.text.specs.{comma, split}
+use Rattle.text.proofs.Widths.{end-inside}
 use Rattle.text_value.specs.{malformed}
-use Rattle.text_field.proofs.Laws.{end-inside}
 use Rattle.line_column.specs.{someCell, badCell, tenthsAll, cellsFound}
 use Rattle.line_column.proofs.Laws.{judge-next, judge-last, keep-next, keep-last}
 use Rattle.line_column.proofs.scan_cells.Tie as tie
@@ -20,7 +20,7 @@ abbrev μ-loop : tie.MeasureT-loop
 -- the end of the cell lies in the line, and its start before it
 ends : (c : tie.After-end-of Inv-loop μ-loop) → (c .before .loop .start ≤ c .end-of .result) × (c .end-of .result ≤ length (c .before .before .before .before .args .line .now))
 ends c =
-    let inside = end-inside (c .before .before .before .before .args .line .now) (c .before .loop .start) (c .before .loop .inv .0) in
+    let inside = end-inside comma (c .before .before .before .before .args .line .now) (c .before .loop .start) (c .before .loop .inv .0) in
     (omega (arith, c .end-of .ensures), omega (arith, c .end-of .ensures))
 
 loop-again : tie.Need-loop-again Inv-loop μ-loop

@@ -10,7 +10,7 @@ known : (c : tie.After-read) (name : Named) → c .read .result ≡ name → let
     typeBefore (c .before .before .before .end-of .result + 1) name ≡ typeAt (x .s .now) (x .at) (x .end)
 known c name e =
     let stop = c .before .before .before in
-    type-read _ _ _ _ name (stop .before .if1 .left) (stop .end-of .ensures .0) (c .before .before .if2 .left) (sym (c .read .ensures) ∙ e)
+    type-read _ _ _ _ name (stop .before .if1 .left) (stop .end-of .ensures) (c .before .before .if2 .left) (sym (c .read .ensures) ∙ e)
 
 returns : tie.Need-returns
 unfolding typeAt
@@ -18,7 +18,7 @@ returns c = field-nowhere _ _ _ _ _ (c .if1 .taken)
 
 returns-2 : tie.Need-returns-2
 unfolding typeAt
-returns-2 c = field-unended _ _ _ _ _ _ (c .before .before .if1 .left) (c .before .end-of .ensures .0) (c .if2 .taken)
+returns-2 c = field-unended _ _ _ _ _ _ (c .before .before .if1 .left) (c .before .end-of .ensures) (c .if2 .taken)
 
 returns-3 : tie.Need-returns-3
 unfolding typeBefore

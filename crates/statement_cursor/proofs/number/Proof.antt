@@ -10,7 +10,7 @@ known : (c : tie.After-read) (number : Number) → c .read .result ≡ number �
     numberBefore (x .most) (c .before .before .before .end-of .result + 1) number ≡ numberAt (x .s .now) (x .at) (x .end) (x .most)
 known c number e =
     let stop = c .before .before .before in
-    number-read _ _ _ _ _ number (stop .before .if1 .left) (stop .end-of .ensures .0) (c .before .before .if2 .left) (sym (c .read .ensures) ∙ e)
+    number-read _ _ _ _ _ number (stop .before .if1 .left) (stop .end-of .ensures) (c .before .before .if2 .left) (sym (c .read .ensures) ∙ e)
 
 returns : tie.Need-returns
 unfolding numberAt
@@ -18,7 +18,7 @@ returns c = (field-nowhere _ _ _ _ _ (c .if1 .taken), omega arith)
 
 returns-2 : tie.Need-returns-2
 unfolding numberAt
-returns-2 c = (field-unended _ _ _ _ _ _ (c .before .before .if1 .left) (c .before .end-of .ensures .0) (c .if2 .taken), omega arith)
+returns-2 c = (field-unended _ _ _ _ _ _ (c .before .before .if1 .left) (c .before .end-of .ensures) (c .if2 .taken), omega arith)
 
 returns-3 : tie.Need-returns-3
 returns-3 c = (number-kept _ _ _ (c .if3 .taken) ∙ known (c .before .before .before .before) _ (c .before .before .v .given .1), c .if3 .taken)

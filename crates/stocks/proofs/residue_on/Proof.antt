@@ -1,11 +1,12 @@
 -- `stocks::residue_on` meets its contract: the residue of the land at the rate of the age cleared, by what is left of it.
 use Rattle.laws.proofs.{needs}
-use Rattle.stocks.specs.{residueOn}
+use Rattle.stocks.specs.{oneResidueOn}
+use Rattle.stocks.proofs.Residues.{residue-alone}
 use Rattle.stocks.proofs.residue_on.Tie as tie
 
 returns : tie.Need-returns
-unfolding residueOn
-returns c = (simp (c .residue2 .ensures .0, c .before .rate-six .ensures, c .before .before .share .ensures, c .before .before .before .years-from .ensures), c .residue2 .ensures .1)
+unfolding oneResidueOn
+returns c = (simp (residue-alone, c .residue2 .ensures .0, c .before .rate-six .ensures, c .before .before .share .ensures, c .before .before .before .years-from .ensures), c .residue2 .ensures .1)
 
 pub residue-on-spec : {M : Type 1} → Rattle.stocks.proofs.residue_on.Statement.statement M
 residue-on-spec = tie.close (tie.spec (λ c κs. search needs) (λ c κs. search needs) (λ c κs. search needs) (λ c κs. search needs) returns)

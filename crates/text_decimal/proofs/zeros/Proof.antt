@@ -1,11 +1,12 @@
 -- `text_decimal::zeros` meets its contract. The loop's invariant: the zeros that are left make of n what all of them make of the number.
-use Rattle.laws.proofs.{_≡_, refl, sym, _∙_, arith, needs, replicate}
+use Rattle.laws.proofs.{_≡_, refl, sym, _∙_, arith, needs}
 use Rattle.text_number.specs.{more}
+use Rattle.text_decimal.specs.{zeros}
 use Rattle.text_decimal.proofs.Laws.{zeros-next, zeros-end}
 use Rattle.text_decimal.proofs.zeros.Tie as tie
 
 abbrev Inv-loop : tie.InvT-loop
-Inv-loop count number left₀ n left = more n (replicate left 48) ≡ more number (replicate count 48)
+Inv-loop count number left₀ n left = more n (zeros left) ≡ more number (zeros count)
 
 abbrev μ-loop : tie.MeasureT-loop
 μ-loop count number left₀ n left = left

@@ -1,14 +1,14 @@
 -- `text_field::scan` meets its contract. The line scan's invariant: what is noted so far, with the starts from here on, are all the starts, and so for the
 -- count; the field scan's: the end of the field, seen from i, is where it was at the field's start.
 use Rattle.laws.proofs.{_+_, _-_, _≤_, _≡_, refl, sym, _∙_, ⊎-elim, arith, needs, length, drop, replicate, sets}
-use Rattle.text.specs.{width, split}
-use Rattle.text.proofs.Fields.{end-later, end-comma, end-last}
+use Rattle.text.specs.{comma, widthTo, split}
+use Rattle.text.proofs.Widths.{end-later, end-here, end-last}
 use Rattle.text_field.specs.{startsFrom, placesOf}
 use Rattle.text_field.proofs.Laws.{count-next, count-last, note-next, note-last}
 use Rattle.text_field.proofs.scan.Tie as tie
 
 abbrev Inv-field : tie.InvT-field
-Inv-field line starts count start i₀ i = (start ≤ i) × (i ≤ length line) × (i + width (drop i line) ≡ start + width (drop start line))
+Inv-field line starts count start i₀ i = (start ≤ i) × (i ≤ length line) × (i + widthTo comma (drop i line) ≡ start + widthTo comma (drop start line))
 
 abbrev μ-field : tie.MeasureT-field
 μ-field line starts count start i₀ i = length line - i
@@ -24,19 +24,19 @@ abbrev μ-line : tie.MeasureT-line
 field-again : tie.Need-field-again Inv-field μ-field Inv-line μ-line
 field-again c =
     let f = c .before .before .before in
-    let later = end-later (f .before .before .before .args .line .now) (f .field .i) (c .before .before .if1 .left) (c .if2 .left) in
+    let later = end-later comma (f .before .before .before .args .line .now) (f .field .i) (c .before .before .if1 .left) (c .if2 .left) in
     (omega arith, omega arith, omega arith)
 
 -- where the two ways out of the field scan meet: `end` is the field's end
 ended : (c : tie.Joined1 Inv-field μ-field Inv-line μ-line)
     → (c .before .before .line .start ≤ c .if1 .end) × (c .if1 .end ≤ length (c .before .before .before .before .args .line .now))
-    × (c .if1 .end ≡ c .before .before .line .start + width (drop (c .before .before .line .start) (c .before .before .before .before .args .line .now)))
+    × (c .if1 .end ≡ c .before .before .line .start + widthTo comma (drop (c .before .before .line .start) (c .before .before .before .before .args .line .now)))
 ended c =
     let s = c .before .before .before .before .args .line .now in
     let i = c .before .field .i in
     ⊎-elim
-    (λ w. let z = end-last s i (w .0 .taken) in let e = w .1 in (omega arith, omega arith, omega arith))
-    (λ w. let z = end-comma s i (w .0 .left) (w .2 .taken) in let e = w .3 in (omega arith, omega arith, omega arith))
+    (λ w. let z = end-last comma s i (w .0 .taken) in let e = w .1 in (omega arith, omega arith, omega arith))
+    (λ w. let z = end-here comma s i (w .0 .left) (w .2 .taken) in let e = w .3 in (omega arith, omega arith, omega arith))
     (c .if1 .came)
 
 line-again : tie.Need-line-again Inv-field μ-field Inv-line μ-line

@@ -1,0 +1,29 @@
+-- The residue of a sub-area is the stock of the one that it holds: where it holds none, that is bare land's, whose rate is 0.
+use Rattle.laws.proofs.{ℕ, _≡_, sym, ap, List}
+use native.Mathlib.Nat.{add-zero, mul-zero, zero-mul}
+use Rattle.laws.specs.{sumBy}
+use Rattle.units.specs.{Tenths, Kilograms, residueOf}
+use Rattle.schedules.specs.{Kind}
+use Rattle.rates.proofs.BareLand.{none-on-bare}
+use Rattle.holding.specs.{Residue, Sub, noResidue, residuesIn}
+use Rattle.holding.proofs.Residues.{by-residue}
+use Rattle.stocks.specs.{oneResidueOn, residueOn}
+
+abbrev kilograms : ℕ → Kilograms
+kilograms n = record { 0 = n }
+
+module _ (own default : List ℕ) (land : Tenths) (y : ℕ) where
+  stock : Residue → ℕ
+  stock residue = oneResidueOn own default land residue y .0
+
+  none-left : 0 ≡ stock noResidue
+  unfolding stock oneResidueOn residueOf
+  none-left = simp (sym (none-on-bare own default Kind.Residue 0), mul-zero, zero-mul)
+
+  one-left : (residue : Residue) → sumBy stock (residuesIn residue) ≡ stock residue
+  unfolding sumBy
+  one-left = by-residue (λ residue residues. sumBy stock residues ≡ stock residue) none-left (λ residue some. add-zero (stock residue))
+
+pub residue-alone : (own default : List ℕ) (sub : Sub) (y : ℕ) → residueOn own default sub y ≡ oneResidueOn own default (sub .tenths) (sub .residue) y
+unfolding residueOn stock
+residue-alone own default sub y = ap kilograms (one-left own default (sub .tenths) y (sub .residue))
