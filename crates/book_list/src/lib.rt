@@ -8,11 +8,17 @@ ghost use Rattle.book_list.specs.{Whole};
 use book_listing::LONGEST_BOOK;
 use refusals::Refusal;
 use refusals::Written;
+use statement_field::START_WIDTH;
 
-// What a line prints at most for each of its bytes and for its end, and what E takes at most.
-const MOST_FOR_BYTE: usize = 11;
+// A line's number and a refusal's, with the byte that ends them.
+const LINE_NUMBER: usize = 6;
 
-const MOST_FOR_END: usize = 14;
+const REFUSAL_NUMBER: usize = 3;
+
+// What a line prints at most for each of its bytes and for its end, which is what an X line takes, and what E takes at most.
+const MOST_FOR_BYTE: usize = START_WIDTH + LINE_NUMBER + REFUSAL_NUMBER;
+
+const MOST_FOR_END: usize = START_WIDTH + 2 * LINE_NUMBER;
 
 // Room for any listing, in bytes: a book's last line may lack its end.
 pub const ROOM: usize = MOST_FOR_BYTE * (LONGEST_BOOK + 1) + MOST_FOR_END;

@@ -1,6 +1,7 @@
 -- What `book` prints: "R: area, first and last year, change, received, due, balance; X: line, refusal; W: area, due; E: lines accepted, refused".
 -- A comma is byte 44, a minus sign byte 45; every line ends with byte 10.
-use Rattle.laws.specs.{ℕ, cond, List, [], _∷_, eqb, _+_, _*_}
+use Rattle.laws.specs.{ℕ, cond, List, [], _∷_, eqb, _+_, _*_, code}
+use Rattle.text.specs.{comma, lineEnd}
 use Rattle.units.specs.{Change}
 use Rattle.refusals.specs.{Refusal, numberOf}
 use Rattle.statement_format.specs.{startText, numberText, joined, startWidth, longWidth, shortWidth, field}
@@ -8,10 +9,10 @@ use Rattle.step_outcome.specs.{Report}
 
 -- the digits of a loss behind a minus sign; a change of 0 t has none
 unfoldable pub lossText : ℕ → List ℕ
-lossText tonnes = cond (eqb tonnes 0) (numberText 0 44) (45 ∷ numberText tonnes 44)
+lossText tonnes = cond (eqb tonnes 0) (numberText 0 comma) (code "-" ∷ numberText tonnes comma)
 
 unfoldable pub changeText : Change → List ℕ
-changeText (Change.Gain tonnes) = numberText tonnes 44
+changeText (Change.Gain tonnes) = numberText tonnes comma
 changeText (Change.Loss tonnes) = lossText tonnes
 
 -- what is printed for an accepted line: R and W lines alone
@@ -19,21 +20,21 @@ unfoldable pub reportText : Report → List ℕ
 reportText Report.Nothing = []
 reportText (Report.Return filed) =
     joined
-    (startText 82 ∷ numberText (filed .area) 44 ∷ numberText (filed .first) 44 ∷ numberText (filed .last) 44 ∷ changeText (filed .change)
-    ∷ numberText (filed .received) 44 ∷ numberText (filed .due) 44 ∷ numberText (filed .balance) 10 ∷ [])
-reportText (Report.Withdrawal area due) = joined (startText 87 ∷ numberText area 44 ∷ numberText due 10 ∷ [])
+    (startText (code "R") ∷ numberText (filed .area) comma ∷ numberText (filed .first) comma ∷ numberText (filed .last) comma ∷ changeText (filed .change)
+    ∷ numberText (filed .received) comma ∷ numberText (filed .due) comma ∷ numberText (filed .balance) lineEnd ∷ [])
+reportText (Report.Withdrawal area due) = joined (startText (code "W") ∷ numberText area comma ∷ numberText due lineEnd ∷ [])
 
 -- a letter and two numbers
 unfoldable pub pairText : ℕ → ℕ → ℕ → List ℕ
-pairText letter a b = joined (startText letter ∷ numberText a 44 ∷ numberText b 10 ∷ [])
+pairText letter a b = joined (startText letter ∷ numberText a comma ∷ numberText b lineEnd ∷ [])
 
 -- "X: line, refusal"
 unfoldable pub refusalText : ℕ → Refusal → List ℕ
-refusalText line refusal = pairText 88 line (numberOf refusal)
+refusalText line refusal = pairText (code "X") line (numberOf refusal)
 
 -- "E: lines accepted, refused"
 unfoldable pub endText : ℕ → ℕ → List ℕ
-endText accepted refused = pairText 69 accepted refused
+endText accepted refused = pairText (code "E") accepted refused
 
 -- ---- how many bytes they take at most
 

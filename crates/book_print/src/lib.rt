@@ -4,6 +4,8 @@ ghost use Prim.Native.Nat.{_+_, _*_};
 ghost use Rattle.statement_format.specs.{startText, numberText, joined, startWidth, shortWidth, longWidth};
 ghost use Rattle.statement_field.specs.{Put};
 ghost use Rattle.book_print.specs.{lossText, changeText, reportText, pairText, refusalText, endText, changeWidth, reportWidth, pairWidth, refusalWidth};
+ghost use Rattle.text.specs.{comma, lineEnd};
+ghost use Rattle.laws.specs.{code};
 use refusals::Refusal;
 use statement_field::LONG_WIDTH;
 use statement_field::SHORT_WIDTH;
@@ -19,38 +21,38 @@ fn put_loss(out: &mut [u8], at: usize, tonnes: u64) -> usize
     ensures { λ r. ⌜ Put changeWidth (now (out .entry)) at (lossText tonnes) (now (out .exit)) r ⌝ }
 {
     if tonnes == 0 {
-        return statement_field::put_field(out, at, 0, 44);
+        return statement_field::put_field(out, at, 0, b',');
     }
-    let next = text::put_byte(out, at, 45);
-    statement_field::put_field(out, next, tonnes, 44)
+    let next = text::put_byte(out, at, b'-');
+    statement_field::put_field(out, next, tonnes, b',')
 }
 
 fn put_change(out: &mut [u8], at: usize, change: Change) -> usize
     ensures { λ r. ⌜ Put changeWidth (now (out .entry)) at (changeText change) (now (out .exit)) r ⌝ }
 {
     match change {
-        Change::Gain(tonnes) => statement_field::put_field(out, at, tonnes, 44),
+        Change::Gain(tonnes) => statement_field::put_field(out, at, tonnes, b','),
         Change::Loss(tonnes) => put_loss(out, at, tonnes),
     }
 }
 
 // R, the area and the first and last year of a return.
 fn put_years(out: &mut [u8], at: usize, area: u16, first: u16, last: u16) -> usize
-    ensures { λ r. ⌜ Put (startWidth + 3 * shortWidth) (now (out .entry)) at (joined (startText 82 ∷ numberText area 44 ∷ numberText first 44 ∷ numberText last 44 ∷ [])) (now (out .exit)) r ⌝ }
+    ensures { λ r. ⌜ Put (startWidth + 3 * shortWidth) (now (out .entry)) at (joined (startText (code "R") ∷ numberText area comma ∷ numberText first comma ∷ numberText last comma ∷ [])) (now (out .exit)) r ⌝ }
 {
-    let next = statement_field::put_start(out, at, 82);
-    let next = statement_field::put_short(out, next, area, 44);
-    let next = statement_field::put_short(out, next, first, 44);
-    statement_field::put_short(out, next, last, 44)
+    let next = statement_field::put_start(out, at, b'R');
+    let next = statement_field::put_short(out, next, area, b',');
+    let next = statement_field::put_short(out, next, first, b',');
+    statement_field::put_short(out, next, last, b',')
 }
 
 // The units of a return, which end its line.
 fn put_units(out: &mut [u8], at: usize, received: u64, due: u64, balance: u64) -> usize
-    ensures { λ r. ⌜ Put (3 * longWidth) (now (out .entry)) at (joined (numberText received 44 ∷ numberText due 44 ∷ numberText balance 10 ∷ [])) (now (out .exit)) r ⌝ }
+    ensures { λ r. ⌜ Put (3 * longWidth) (now (out .entry)) at (joined (numberText received comma ∷ numberText due comma ∷ numberText balance lineEnd ∷ [])) (now (out .exit)) r ⌝ }
 {
-    let next = statement_field::put_field(out, at, received, 44);
-    let next = statement_field::put_field(out, next, due, 44);
-    statement_field::put_field(out, next, balance, 10)
+    let next = statement_field::put_field(out, at, received, b',');
+    let next = statement_field::put_field(out, next, due, b',');
+    statement_field::put_field(out, next, balance, b'\n')
 }
 
 // Puts the line of an accepted R or W entry; of another, nothing.
@@ -66,9 +68,9 @@ pub fn put_report(out: &mut [u8], at: usize, report: Report) -> usize
             put_units(out, next, filed.received, filed.due, filed.balance)
         }
         Report::Withdrawal { area, due } => {
-            let next = statement_field::put_start(out, at, 87);
-            let next = statement_field::put_short(out, next, area, 44);
-            statement_field::put_field(out, next, due, 10)
+            let next = statement_field::put_start(out, at, b'W');
+            let next = statement_field::put_short(out, next, area, b',');
+            statement_field::put_field(out, next, due, b'\n')
         }
     }
 }
@@ -77,8 +79,8 @@ fn put_pair(out: &mut [u8], at: usize, letter: u8, a: u64, b: u64) -> usize
     ensures { λ r. ⌜ Put pairWidth (now (out .entry)) at (pairText letter a b) (now (out .exit)) r ⌝ }
 {
     let next = statement_field::put_start(out, at, letter);
-    let next = statement_field::put_field(out, next, a, 44);
-    statement_field::put_field(out, next, b, 10)
+    let next = statement_field::put_field(out, next, a, b',');
+    statement_field::put_field(out, next, b, b'\n')
 }
 
 // Puts the line of a refused line, by its number in the book.
@@ -86,12 +88,12 @@ pub fn put_refusal(out: &mut [u8], at: usize, line: u64, refusal: Refusal) -> us
     ensures { λ r. ⌜ Put refusalWidth (now (out .entry)) at (refusalText line refusal) (now (out .exit)) r ⌝ }
 {
     let number = refusals::number(refusal);
-    put_pair(out, at, 88, line, number as u64)
+    put_pair(out, at, b'X', line, number as u64)
 }
 
 // Puts the book's last line: how many lines were accepted, and how many refused.
 pub fn put_end(out: &mut [u8], at: usize, accepted: u64, refused: u64) -> usize
     ensures { λ r. ⌜ Put pairWidth (now (out .entry)) at (endText accepted refused) (now (out .exit)) r ⌝ }
 {
-    put_pair(out, at, 69, accepted, refused)
+    put_pair(out, at, b'E', accepted, refused)
 }

@@ -1,6 +1,7 @@
 -- A book run line by line through the call, as the field unit's own program runs it: it keeps a statement, a table and one output buffer, and
 -- lends them to every call.
-use Rattle.laws.specs.{ℕ, suc, _+_, Bool, true, false, cond, _&&_, _||_, List, [], _∷_, _++_, eqb, length, getD, take, drop, ℤ, pos, negsuc}
+use Rattle.laws.specs.{ℕ, suc, _+_, Bool, true, false, cond, _&&_, _||_, List, [], _∷_, _++_, eqb, length, getD, take, drop, ℤ, pos, negsuc, code}
+use Rattle.text.specs.{lineEnd}
 use Rattle.book_room.specs.{returnWidth}
 use Rattle.holding.specs.{emptyHolding}
 use Rattle.statement_format.specs.{statementOf, carriedWidth}
@@ -24,12 +25,12 @@ begin out = record { statement = statementOf emptyHolding; table = []; out = out
 
 -- a T line, by its first byte
 unfoldable pub isColumnLine : List ℕ → Bool
-isColumnLine line = eqb (getD line 0 0) 84
+isColumnLine line = eqb (getD line 0 0) (code "T")
 
 -- how many bytes stand before the first line that begins with R or W; the test says whether a line begins here
 unfoldable pub beforeReport : Bool → List ℕ → ℕ
 beforeReport begins [] = 0
-beforeReport begins (b ∷ bytes) = cond (begins && (eqb b 82 || eqb b 87)) 0 (suc (beforeReport (eqb b 10) bytes))
+beforeReport begins (b ∷ bytes) = cond (begins && (eqb b (code "R") || eqb b (code "W"))) 0 (suc (beforeReport (eqb b lineEnd) bytes))
 
 -- "The output takes the new statement, then what `book` prints for an accepted R or W": the two parts of the bytes written
 abbrev pub statementIn : List ℕ → List ℕ
@@ -60,7 +61,7 @@ afterCall caller line =
 -- what the program prints after a call: the report, if there is one, or X,line,refusal
 abbrev pub shown : Caller → List ℕ → List ℕ → ℤ → List ℕ
 shown caller line out (pos n) = cond (isColumnLine line) [] (reportIn (take n out))
-shown caller line out (negsuc n) = pairText 88 (caller .accepted + caller .refused + 1) (suc n)
+shown caller line out (negsuc n) = pairText (code "X") (caller .accepted + caller .refused + 1) (suc n)
 
 unfoldable pub shownAfter : Caller → List ℕ → List ℕ
 shownAfter caller line =

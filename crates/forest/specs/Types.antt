@@ -1,6 +1,6 @@
 -- "Forest types: P1 to P9 (Pinus radiata with its region ..), D Douglas fir, S exotic softwoods, H exotic hardwoods, N indigenous."
 -- "Bare land is type B ..". A letter or digit is its byte.
-use Rattle.laws.specs.{ℕ, _+_, cond, List, [], _∷_, eqb, Bool}
+use Rattle.laws.specs.{ℕ, _+_, cond, List, [], _∷_, eqb, Bool, code}
 use Rattle.forest.specs.declared.Region.{Region}
 use Rattle.forest.specs.declared.Forest.{Forest}
 use Rattle.forest.specs.declared.Named.{Named}
@@ -20,24 +20,24 @@ regionNumber Region.Southland = 8
 regionNumber Region.WaikatoTaupo = 9
 
 abbrev pub digitOf : Region → ℕ
-digitOf region = 48 + regionNumber region
+digitOf region = code "0" + regionNumber region
 
 unfoldable pub lettersOf : Forest → List ℕ
-lettersOf Forest.Bare = 66 ∷ []
-lettersOf (Forest.Radiata region) = 80 ∷ digitOf region ∷ []
-lettersOf Forest.DouglasFir = 68 ∷ []
-lettersOf Forest.ExoticSoftwoods = 83 ∷ []
-lettersOf Forest.ExoticHardwoods = 72 ∷ []
-lettersOf Forest.Indigenous = 78 ∷ []
+lettersOf Forest.Bare = code "B" ∷ []
+lettersOf (Forest.Radiata region) = code "P" ∷ digitOf region ∷ []
+lettersOf Forest.DouglasFir = code "D" ∷ []
+lettersOf Forest.ExoticSoftwoods = code "S" ∷ []
+lettersOf Forest.ExoticHardwoods = code "H" ∷ []
+lettersOf Forest.Indigenous = code "N" ∷ []
 
 -- the letters in two bytes, the second 0 where there is one letter
 abbrev pub lettersWritten : Forest → Letters
-lettersWritten Forest.Bare = record { len = 1; bytes = 66 ∷ 0 ∷ [] }
-lettersWritten (Forest.Radiata region) = record { len = 2; bytes = 80 ∷ digitOf region ∷ [] }
-lettersWritten Forest.DouglasFir = record { len = 1; bytes = 68 ∷ 0 ∷ [] }
-lettersWritten Forest.ExoticSoftwoods = record { len = 1; bytes = 83 ∷ 0 ∷ [] }
-lettersWritten Forest.ExoticHardwoods = record { len = 1; bytes = 72 ∷ 0 ∷ [] }
-lettersWritten Forest.Indigenous = record { len = 1; bytes = 78 ∷ 0 ∷ [] }
+lettersWritten Forest.Bare = record { len = 1; bytes = code "B" ∷ 0 ∷ [] }
+lettersWritten (Forest.Radiata region) = record { len = 2; bytes = code "P" ∷ digitOf region ∷ [] }
+lettersWritten Forest.DouglasFir = record { len = 1; bytes = code "D" ∷ 0 ∷ [] }
+lettersWritten Forest.ExoticSoftwoods = record { len = 1; bytes = code "S" ∷ 0 ∷ [] }
+lettersWritten Forest.ExoticHardwoods = record { len = 1; bytes = code "H" ∷ 0 ∷ [] }
+lettersWritten Forest.Indigenous = record { len = 1; bytes = code "N" ∷ 0 ∷ [] }
 
 -- the type that stands beside a byte in a list
 unfoldable pub beside : ℕ → List (ℕ × Forest) → Named
@@ -45,13 +45,13 @@ beside b [] = Named.Unlisted
 beside b (p ∷ ps) = cond (eqb b (p .0)) (Named.Listed (p .1)) (beside b ps)
 
 abbrev pub letters : List (ℕ × Forest)
-letters = (66, Forest.Bare) ∷ (68, Forest.DouglasFir) ∷ (83, Forest.ExoticSoftwoods) ∷ (72, Forest.ExoticHardwoods) ∷ (78, Forest.Indigenous) ∷ []
+letters = (code "B", Forest.Bare) ∷ (code "D", Forest.DouglasFir) ∷ (code "S", Forest.ExoticSoftwoods) ∷ (code "H", Forest.ExoticHardwoods) ∷ (code "N", Forest.Indigenous) ∷ []
 
 abbrev pub regions : List (ℕ × Forest)
 regions =
-    (49, Forest.Radiata Region.Auckland) ∷ (50, Forest.Radiata Region.BayOfPlenty) ∷ (51, Forest.Radiata Region.CanterburyWestCoast) ∷ (52, Forest.Radiata Region.Gisborne)
-    ∷ (53, Forest.Radiata Region.HawkesBaySouthernNorthIsland) ∷ (54, Forest.Radiata Region.NelsonMarlborough) ∷ (55, Forest.Radiata Region.Otago)
-    ∷ (56, Forest.Radiata Region.Southland) ∷ (57, Forest.Radiata Region.WaikatoTaupo) ∷ []
+    (code "1", Forest.Radiata Region.Auckland) ∷ (code "2", Forest.Radiata Region.BayOfPlenty) ∷ (code "3", Forest.Radiata Region.CanterburyWestCoast) ∷ (code "4", Forest.Radiata Region.Gisborne)
+    ∷ (code "5", Forest.Radiata Region.HawkesBaySouthernNorthIsland) ∷ (code "6", Forest.Radiata Region.NelsonMarlborough) ∷ (code "7", Forest.Radiata Region.Otago)
+    ∷ (code "8", Forest.Radiata Region.Southland) ∷ (code "9", Forest.Radiata Region.WaikatoTaupo) ∷ []
 
 unfoldable pub letterNames : ℕ → Named
 letterNames b = beside b letters
@@ -63,7 +63,7 @@ regionNames b = beside b regions
 unfoldable pub named : List ℕ → Named
 named [] = Named.Unlisted
 named (b ∷ []) = letterNames b
-named (b ∷ d ∷ []) = cond (eqb b 80) (regionNames d) Named.Unlisted
+named (b ∷ d ∷ []) = cond (eqb b (code "P")) (regionNames d) Named.Unlisted
 named (b ∷ d ∷ e ∷ more) = Named.Unlisted
 
 -- P1 to P9, D, S, H, N, counted from 1; bare land has no column

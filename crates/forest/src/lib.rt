@@ -40,11 +40,11 @@ fn letter_names(letter: u8) -> Named
     ensures { λ r. ⌜ r ≡ letterNames letter ⌝ }
 {
     match letter {
-        66 => Named::Listed(Forest::Bare),
-        68 => Named::Listed(Forest::DouglasFir),
-        83 => Named::Listed(Forest::ExoticSoftwoods),
-        72 => Named::Listed(Forest::ExoticHardwoods),
-        78 => Named::Listed(Forest::Indigenous),
+        b'B' => Named::Listed(Forest::Bare),
+        b'D' => Named::Listed(Forest::DouglasFir),
+        b'S' => Named::Listed(Forest::ExoticSoftwoods),
+        b'H' => Named::Listed(Forest::ExoticHardwoods),
+        b'N' => Named::Listed(Forest::Indigenous),
         _ => Named::Unlisted,
     }
 }
@@ -53,15 +53,15 @@ fn region_names(digit: u8) -> Named
     ensures { λ r. ⌜ r ≡ regionNames digit ⌝ }
 {
     match digit {
-        49 => Named::Listed(Forest::Radiata(Region::Auckland)),
-        50 => Named::Listed(Forest::Radiata(Region::BayOfPlenty)),
-        51 => Named::Listed(Forest::Radiata(Region::CanterburyWestCoast)),
-        52 => Named::Listed(Forest::Radiata(Region::Gisborne)),
-        53 => Named::Listed(Forest::Radiata(Region::HawkesBaySouthernNorthIsland)),
-        54 => Named::Listed(Forest::Radiata(Region::NelsonMarlborough)),
-        55 => Named::Listed(Forest::Radiata(Region::Otago)),
-        56 => Named::Listed(Forest::Radiata(Region::Southland)),
-        57 => Named::Listed(Forest::Radiata(Region::WaikatoTaupo)),
+        b'1' => Named::Listed(Forest::Radiata(Region::Auckland)),
+        b'2' => Named::Listed(Forest::Radiata(Region::BayOfPlenty)),
+        b'3' => Named::Listed(Forest::Radiata(Region::CanterburyWestCoast)),
+        b'4' => Named::Listed(Forest::Radiata(Region::Gisborne)),
+        b'5' => Named::Listed(Forest::Radiata(Region::HawkesBaySouthernNorthIsland)),
+        b'6' => Named::Listed(Forest::Radiata(Region::NelsonMarlborough)),
+        b'7' => Named::Listed(Forest::Radiata(Region::Otago)),
+        b'8' => Named::Listed(Forest::Radiata(Region::Southland)),
+        b'9' => Named::Listed(Forest::Radiata(Region::WaikatoTaupo)),
         _ => Named::Unlisted,
     }
 }
@@ -74,7 +74,7 @@ pub fn read(letters: &[u8]) -> Named
         return letter_names(letters[0]);
     }
     if letters.len() == 2 {
-        if letters[0] == 80 {
+        if letters[0] == b'P' {
             return region_names(letters[1]);
         }
         return Named::Unlisted;
@@ -101,7 +101,7 @@ fn region_number(region: Region) -> u8
 fn digit(region: Region) -> u8
     ensures { λ r. ⌜ r ≡ digitOf region ⌝ }
 {
-    48 + region_number(region)
+    b'0' + region_number(region)
 }
 
 pub fn write(forest: Forest) -> Letters
@@ -110,27 +110,27 @@ pub fn write(forest: Forest) -> Letters
     match forest {
         Forest::Bare => Letters {
             len: 1,
-            bytes: [66, 0],
+            bytes: [b'B', 0],
         },
         Forest::Radiata(region) => Letters {
             len: 2,
-            bytes: [80, digit(region)],
+            bytes: [b'P', digit(region)],
         },
         Forest::DouglasFir => Letters {
             len: 1,
-            bytes: [68, 0],
+            bytes: [b'D', 0],
         },
         Forest::ExoticSoftwoods => Letters {
             len: 1,
-            bytes: [83, 0],
+            bytes: [b'S', 0],
         },
         Forest::ExoticHardwoods => Letters {
             len: 1,
-            bytes: [72, 0],
+            bytes: [b'H', 0],
         },
         Forest::Indigenous => Letters {
             len: 1,
-            bytes: [78, 0],
+            bytes: [b'N', 0],
         },
     }
 }

@@ -7,7 +7,7 @@ use Rattle.statement_parse.specs.{HoldingRead, holdingAt}
 use Rattle.statement.specs.declared.Read.{Read}
 
 -- the bytes were read to their end, and the holding is one that a statement carries; that "the bytes are the writer's" then is
--- `accepts-that` (trips)
+-- `accepts-that` (theorem_round_trips)
 abbrev pub accepts : List ℕ → HoldingRead → Bool
 accepts s read = ltb 0 (read .next) && eqb (read .next) (length s) && carried (read .holding)
 

@@ -1,5 +1,5 @@
--- What stands at a place of a list of bytes, and the place after it. The place 0 is nowhere. The reader's own: `accepts-just-when` (trips)
--- says what it comes to by `carried` and `statementOf` alone.
+-- What stands at a place of a list of bytes, and the place after it. The place 0 is nowhere. The reader's own:
+-- `accepts-just-when` (theorem_round_trips) says what it comes to by `carried` and `statementOf` alone.
 use Rattle.laws.specs.{ℕ, _+_, cond, _&&_, List, eqb, leb, ltb, length, take, drop, getD}
 use Rattle.text.specs.{comma, widthTo}
 use Rattle.text_number.specs.{Number, numberIn}

@@ -14,7 +14,7 @@ pub fn put_start(out: &mut [u8], at: usize, letter: u8) -> usize
     ensures { λ r. ⌜ Put startWidth (now (out .entry)) at (startText letter) (now (out .exit)) r ⌝ }
 {
     let next = text::put_byte(out, at, letter);
-    text::put_byte(out, next, 44)
+    text::put_byte(out, next, b',')
 }
 
 // Puts a number and the byte that ends its field.

@@ -76,9 +76,9 @@ pub struct HoldingRead {
 fn read_residue(s: &[u8], at: usize) -> ResidueRead
     ensures { λ r. ⌜ r ≡ residueAt (now (s .entry)) at ⌝ }
 {
-    let type_field = statement_cursor::forest_type(s, at, 44);
-    let age_field = statement_cursor::number(s, type_field.next, 44, MOST16);
-    let year_field = statement_cursor::number(s, age_field.next, 10, MOST16);
+    let type_field = statement_cursor::forest_type(s, at, b',');
+    let age_field = statement_cursor::number(s, type_field.next, b',', MOST16);
+    let year_field = statement_cursor::number(s, age_field.next, b'\n', MOST16);
     let forest = type_field.forest;
     let age = age_field.value as u16;
     let year = year_field.value as u16;
@@ -92,11 +92,11 @@ fn read_residue(s: &[u8], at: usize) -> ResidueRead
 fn read_sub(s: &[u8], at: usize) -> SubRead
     ensures { λ r. ⌜ r ≡ subLineAt (now (s .entry)) at ⌝ }
 {
-    let start = statement_cursor::line(s, at, 83);
-    let number = statement_cursor::number(s, start, 44, MOST8);
-    let tenths = statement_cursor::number(s, number.next, 44, MOST32);
-    let trees = statement_cursor::forest_type(s, tenths.next, 44);
-    let planted = statement_cursor::number(s, trees.next, 44, MOST16);
+    let start = statement_cursor::line(s, at, b'S');
+    let number = statement_cursor::number(s, start, b',', MOST8);
+    let tenths = statement_cursor::number(s, number.next, b',', MOST32);
+    let trees = statement_cursor::forest_type(s, tenths.next, b',');
+    let planted = statement_cursor::number(s, trees.next, b',', MOST16);
     let cleared = read_residue(s, planted.next);
     let forest = trees.forest;
     let residue = cleared.residue;
@@ -133,10 +133,10 @@ fn read_subs(s: &[u8], at: usize, count: usize) -> SubsRead
 fn read_years(s: &[u8], at: usize) -> YearsRead
     ensures { λ r. ⌜ r ≡ yearsAt (now (s .entry)) at ⌝ }
 {
-    let number = statement_cursor::number(s, at, 44, MOST16);
-    let opening = statement_cursor::number(s, number.next, 44, MOST16);
-    let open_year = statement_cursor::number(s, opening.next, 44, MOST16);
-    let latest = statement_cursor::number(s, open_year.next, 44, MOST16);
+    let number = statement_cursor::number(s, at, b',', MOST16);
+    let opening = statement_cursor::number(s, number.next, b',', MOST16);
+    let open_year = statement_cursor::number(s, opening.next, b',', MOST16);
+    let latest = statement_cursor::number(s, open_year.next, b',', MOST16);
     YearsRead {
         number: number.value as u16,
         opening: opening.value as u16,
@@ -150,11 +150,11 @@ fn read_years(s: &[u8], at: usize) -> YearsRead
 fn read_amounts(s: &[u8], at: usize) -> AmountsRead
     ensures { λ r. ⌜ r ≡ amountsAt (now (s .entry)) at ⌝ }
 {
-    let withdrawn = statement_cursor::number(s, at, 44, 1);
-    let returns = statement_cursor::number(s, withdrawn.next, 44, MOST16);
-    let stock = statement_cursor::number(s, returns.next, 44, MOST_READ);
-    let received = statement_cursor::number(s, stock.next, 44, MOST_READ);
-    let surrendered = statement_cursor::number(s, received.next, 44, MOST_READ);
+    let withdrawn = statement_cursor::number(s, at, b',', 1);
+    let returns = statement_cursor::number(s, withdrawn.next, b',', MOST16);
+    let stock = statement_cursor::number(s, returns.next, b',', MOST_READ);
+    let received = statement_cursor::number(s, stock.next, b',', MOST_READ);
+    let surrendered = statement_cursor::number(s, received.next, b',', MOST_READ);
     AmountsRead {
         withdrawn: withdrawn.value == 1,
         returns: returns.value as u16,
@@ -169,10 +169,10 @@ fn read_amounts(s: &[u8], at: usize) -> AmountsRead
 fn read_area(s: &[u8], at: usize) -> AreaRead
     ensures { λ r. ⌜ r ≡ areaLineAt (now (s .entry)) at ⌝ }
 {
-    let start = statement_cursor::line(s, at, 65);
+    let start = statement_cursor::line(s, at, b'A');
     let years = read_years(s, start);
     let amounts = read_amounts(s, years.next);
-    let count = statement_cursor::number(s, amounts.next, 10, SUBS_READ);
+    let count = statement_cursor::number(s, amounts.next, b'\n', SUBS_READ);
     let read = read_subs(s, count.next, count.value as usize);
     let stock = amounts.stock;
     let subs = read.subs;
@@ -215,8 +215,8 @@ fn read_areas(s: &[u8], at: usize, count: usize) -> AreasRead
 pub fn read_holding(s: &[u8]) -> HoldingRead
     ensures { λ r. ⌜ r ≡ holdingAt (now (s .entry)) ⌝ }
 {
-    let start = statement_cursor::start(s, 0, 72);
-    let count = statement_cursor::number(s, start, 10, AREAS_READ);
+    let start = statement_cursor::start(s, 0, b'H');
+    let count = statement_cursor::number(s, start, b'\n', AREAS_READ);
     let read = read_areas(s, count.next, count.value as usize);
     let areas = read.areas;
     HoldingRead {

@@ -3,6 +3,7 @@ ghost use Prim.Native.Nat.{_*_};
 ghost use Rattle.statement_format.specs.{typeText, texts, residueText, subText, typeWidth, residueWidth, subWidth};
 ghost use Rattle.holding.specs.{mostSubs, subsOf};
 ghost use Rattle.statement_field.specs.{Put};
+ghost use Rattle.text.specs.{lineEnd};
 use forest::Forest;
 use holding::Area;
 use holding::MOST_SUBS;
@@ -37,12 +38,12 @@ fn put_type(out: &mut [u8], at: usize, forest: Forest, end: u8) -> usize
 }
 
 fn put_residue(out: &mut [u8], at: usize, residue: Residue) -> usize
-    ensures { λ r. ⌜ Put residueWidth (now (out .entry)) at (residueText residue 10) (now (out .exit)) r ⌝ }
+    ensures { λ r. ⌜ Put residueWidth (now (out .entry)) at (residueText residue lineEnd) (now (out .exit)) r ⌝ }
 {
     let forest = residue.forest;
-    let next = put_type(out, at, forest, 44);
-    let next = statement_field::put_short(out, next, residue.age, 44);
-    statement_field::put_short(out, next, residue.year, 10)
+    let next = put_type(out, at, forest, b',');
+    let next = statement_field::put_short(out, next, residue.age, b',');
+    statement_field::put_short(out, next, residue.year, b'\n')
 }
 
 fn put_sub(out: &mut [u8], at: usize, sub: Sub) -> usize
@@ -51,11 +52,11 @@ fn put_sub(out: &mut [u8], at: usize, sub: Sub) -> usize
     let tenths = sub.tenths;
     let forest = sub.forest;
     let residue = sub.residue;
-    let next = statement_field::put_start(out, at, 83);
-    let next = statement_field::put_short(out, next, sub.number as u16, 44);
-    let next = statement_field::put_field(out, next, tenths.0 as u64, 44);
-    let next = put_type(out, next, forest, 44);
-    let next = statement_field::put_short(out, next, sub.planted, 44);
+    let next = statement_field::put_start(out, at, b'S');
+    let next = statement_field::put_short(out, next, sub.number as u16, b',');
+    let next = statement_field::put_field(out, next, tenths.0 as u64, b',');
+    let next = put_type(out, next, forest, b',');
+    let next = statement_field::put_short(out, next, sub.planted, b',');
     put_residue(out, next, residue)
 }
 

@@ -25,10 +25,10 @@ pub const STATEMENT_WIDTH: usize = START_WIDTH + LONG_WIDTH + AREA_WIDTH * MOST_
 fn put_years(out: &mut [u8], at: usize, area: Area) -> usize
     ensures { λ r. ⌜ Put yearsWidth (now (out .entry)) at (yearsText area) (now (out .exit)) r ⌝ }
 {
-    let next = statement_field::put_short(out, at, area.number, 44);
-    let next = statement_field::put_short(out, next, area.opening, 44);
-    let next = statement_field::put_short(out, next, area.open_year, 44);
-    statement_field::put_short(out, next, area.latest, 44)
+    let next = statement_field::put_short(out, at, area.number, b',');
+    let next = statement_field::put_short(out, next, area.opening, b',');
+    let next = statement_field::put_short(out, next, area.open_year, b',');
+    statement_field::put_short(out, next, area.latest, b',')
 }
 
 fn as_number(withdrawn: bool) -> u64
@@ -45,20 +45,20 @@ fn put_amounts(out: &mut [u8], at: usize, area: Area) -> usize
 {
     let stock = area.stock;
     let withdrawn = as_number(area.withdrawn);
-    let next = statement_field::put_field(out, at, withdrawn, 44);
-    let next = statement_field::put_short(out, next, area.returns, 44);
-    let next = statement_field::put_field(out, next, stock.0, 44);
-    let next = statement_field::put_field(out, next, area.received, 44);
-    statement_field::put_field(out, next, area.surrendered, 44)
+    let next = statement_field::put_field(out, at, withdrawn, b',');
+    let next = statement_field::put_short(out, next, area.returns, b',');
+    let next = statement_field::put_field(out, next, stock.0, b',');
+    let next = statement_field::put_field(out, next, area.received, b',');
+    statement_field::put_field(out, next, area.surrendered, b',')
 }
 
 fn put_area(out: &mut [u8], at: usize, area: Area) -> usize
     ensures { λ r. ⌜ Put areaWidth (now (out .entry)) at (areaText area) (now (out .exit)) r ⌝ }
 {
-    let next = statement_field::put_start(out, at, 65);
+    let next = statement_field::put_start(out, at, b'A');
     let next = put_years(out, next, area);
     let next = put_amounts(out, next, area);
-    let next = statement_field::put_field(out, next, area.count as u64, 10);
+    let next = statement_field::put_field(out, next, area.count as u64, b'\n');
     statement_sub::put_subs(out, next, area)
 }
 
@@ -68,8 +68,8 @@ pub fn put_statement(out: &mut [u8], at: usize, holding: Holding) -> usize
     ensures { λ _. ⌜ length (statementOf holding) ≤ statementWidth ⌝ }
 {
     let n = holding.count;
-    let start = statement_field::put_start(out, at, 72);
-    let mut next = statement_field::put_field(out, start, n as u64, 10);
+    let start = statement_field::put_start(out, at, b'H');
+    let mut next = statement_field::put_field(out, start, n as u64, b'\n');
     let mut i: usize = 0;
     while i < MOST_AREAS {
         if n <= i {

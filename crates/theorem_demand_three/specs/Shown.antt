@@ -1,5 +1,6 @@
 -- "A statement written after the list shows these two totals, the number of returns and the closing stock."
-use Rattle.laws.specs.{ℕ, _≡_, List, [], _∷_, _++_, length}
+use Rattle.laws.specs.{ℕ, _≡_, List, [], _∷_, _++_, length, code}
+use Rattle.text.specs.{comma, lineEnd}
 use mathlib.Core.Option.{Option, none, some}
 use Rattle.theorem_ledger.specs.{Row}
 use Rattle.statement_format.specs.{startText, numberText, joined, flag}
@@ -9,8 +10,8 @@ use Rattle.theorem_accounts.specs.{Reported}
 unfoldable pub areaLine : (number opening openYear latest withdrawn returns stock received surrendered subs : ℕ) → List ℕ
 areaLine number opening openYear latest withdrawn returns stock received surrendered subs =
     joined
-    (startText 65 ∷ numberText number 44 ∷ numberText opening 44 ∷ numberText openYear 44 ∷ numberText latest 44 ∷ numberText withdrawn 44
-    ∷ numberText returns 44 ∷ numberText stock 44 ∷ numberText received 44 ∷ numberText surrendered 44 ∷ numberText subs 10 ∷ [])
+    (startText (code "A") ∷ numberText number comma ∷ numberText opening comma ∷ numberText openYear comma ∷ numberText latest comma ∷ numberText withdrawn comma
+    ∷ numberText returns comma ∷ numberText stock comma ∷ numberText received comma ∷ numberText surrendered comma ∷ numberText subs lineEnd ∷ [])
 
 -- the line of the area n stands in the statement, behind a line's end (byte 10): the totals as reported, the rest as the ledger has it, which
 -- keeps neither the open nor the latest year
@@ -22,7 +23,7 @@ pub record LineShown (statement : List ℕ) (n : ℕ) (reported : Reported) (row
   pub shown : (let line =
       areaLine n (row .openingYear) openYear latest (flag (row .withdrawn)) (row .returns) (row .closing) (reported .received) (reported .surrendered)
       (length (row .subs)) in
-      statement ≡ before ++ (10 ∷ (line ++ after)))
+      statement ≡ before ++ (lineEnd ∷ (line ++ after)))
 
 -- by the ledger's row under the number
 unfoldable pub Shows : List ℕ → ℕ → Reported → Option Row → Type 0
