@@ -1,6 +1,7 @@
 -- How a statement is read: field by field, each at the place after the one before; a number as far as its place in the holding has room,
 -- its range judged afterwards. What is accepted so is a carried holding's bytes and no other: `accepts-just-when` (theorem_round_trips).
-use Rattle.laws.specs.{ℕ, zero, suc, _+_, List, eqb, set, replicate}
+use Rattle.laws.specs.{ℕ, zero, suc, _+_, List, eqb, set, replicate, code}
+use Rattle.text.specs.{comma, lineEnd}
 use Rattle.holding.specs.{Sub, Area, mostAreas, mostSubs, emptySub, emptyArea}
 use Rattle.statement_cursor.specs.{numberAt, typeAt, startAt, lineAt}
 use Rattle.statement_parse.specs.declared.ResidueRead.{ResidueRead}
@@ -27,26 +28,20 @@ mostRead = 999999999999999
 
 unfoldable pub residueAt : List ℕ → ℕ → ResidueRead
 residueAt s at =
-    let type = typeAt s at 44 in
-    let age = numberAt s (type .next) 44 most16 in
-    let year = numberAt s (age .next) 10 most16 in
+    let type = typeAt s at comma in
+    let age = numberAt s (type .next) comma most16 in
+    let year = numberAt s (age .next) lineEnd most16 in
     record { residue = record { forest = type .forest; age = age .value; year = year .value }; next = year .next }
 
 unfoldable pub subLineAt : List ℕ → ℕ → SubRead
 subLineAt s at =
-    let number = numberAt s (lineAt s at 83) 44 most8 in
-    let tenths = numberAt s (number .next) 44 most32 in
-    let type = typeAt s (tenths .next) 44 in
-    let planted = numberAt s (type .next) 44 most16 in
+    let number = numberAt s (lineAt s at (code "S")) comma most8 in
+    let tenths = numberAt s (number .next) comma most32 in
+    let type = typeAt s (tenths .next) comma in
+    let planted = numberAt s (type .next) comma most16 in
     let residue = residueAt s (planted .next) in
     record {
-      sub = record {
-        number = number .value;
-        tenths = record { 0 = tenths .value };
-        forest = type .forest;
-        planted = planted .value;
-        residue = residue .residue;
-      };
+      sub = record { number = number .value; tenths = record { 0 = tenths .value }; forest = type .forest; planted = planted .value; residue = residue .residue };
       next = residue .next;
     }
 
@@ -63,19 +58,19 @@ subsAt s at count = let read = subsFrom s count 0 (replicate mostSubs emptySub) 
 
 unfoldable pub yearsAt : List ℕ → ℕ → YearsRead
 yearsAt s at =
-    let number = numberAt s at 44 most16 in
-    let opening = numberAt s (number .next) 44 most16 in
-    let openYear = numberAt s (opening .next) 44 most16 in
-    let latest = numberAt s (openYear .next) 44 most16 in
+    let number = numberAt s at comma most16 in
+    let opening = numberAt s (number .next) comma most16 in
+    let openYear = numberAt s (opening .next) comma most16 in
+    let latest = numberAt s (openYear .next) comma most16 in
     record { number = number .value; opening = opening .value; «open_year» = openYear .value; latest = latest .value; next = latest .next }
 
 unfoldable pub amountsAt : List ℕ → ℕ → AmountsRead
 amountsAt s at =
-    let withdrawn = numberAt s at 44 1 in
-    let returns = numberAt s (withdrawn .next) 44 most16 in
-    let stock = numberAt s (returns .next) 44 mostRead in
-    let received = numberAt s (stock .next) 44 mostRead in
-    let surrendered = numberAt s (received .next) 44 mostRead in
+    let withdrawn = numberAt s at comma 1 in
+    let returns = numberAt s (withdrawn .next) comma most16 in
+    let stock = numberAt s (returns .next) comma mostRead in
+    let received = numberAt s (stock .next) comma mostRead in
+    let surrendered = numberAt s (received .next) comma mostRead in
     record {
       withdrawn = eqb (withdrawn .value) 1;
       returns = returns .value;
@@ -87,9 +82,9 @@ amountsAt s at =
 
 unfoldable pub areaLineAt : List ℕ → ℕ → AreaRead
 areaLineAt s at =
-    let years = yearsAt s (lineAt s at 65) in
+    let years = yearsAt s (lineAt s at (code "A")) in
     let amounts = amountsAt s (years .next) in
-    let count = numberAt s (amounts .next) 10 mostSubs in
+    let count = numberAt s (amounts .next) lineEnd mostSubs in
     let subs = subsAt s (count .next) (count .value) in
     record {
       area = record {
@@ -116,6 +111,6 @@ areasAt s at count = let read = areasFrom s count 0 (replicate mostAreas emptyAr
 
 unfoldable pub holdingAt : List ℕ → HoldingRead
 holdingAt s =
-    let count = numberAt s (startAt s 0 72) 10 mostAreas in
+    let count = numberAt s (startAt s 0 (code "H")) lineEnd mostAreas in
     let areas = areasAt s (count .next) (count .value) in
     record { holding = record { count = count .value; areas = areas .areas }; next = areas .next }
