@@ -3,13 +3,16 @@
  *   field_unit STATEMENT TABLE < lines
  *
  * A file that is not there yet is the empty holding, or no table. For each line it prints the line's number and what
- * came of it. Ends with 0 where every line was taken, 1 where one was refused, 2 where a file could not be read or kept.
+ * came of it, once that is kept: what was answered outlasts a loss of power. Ends with 0 where every line was taken,
+ * 1 where one was refused, 2 where a file could not be read or kept, or no answer given.
  */
 #define _POSIX_C_SOURCE 200809L
 #include "carbon_account.h"
 
 #include <errno.h>
+#include <fcntl.h>
 #include <inttypes.h>
+#include <libgen.h>
 #include <stdio.h>
 #include <stdlib.h>
 #include <string.h>
@@ -46,6 +49,14 @@ static void load(struct kept *kept, const char *path, const char *if_new)
     fclose(file);
 }
 
+/* The new name is kept in the folder too: else the old file may be back after a loss of power. */
+static void sync_folder(const char *folder)
+{
+    int opened = open(folder, O_RDONLY | O_DIRECTORY);
+    if (opened < 0 || fsync(opened) != 0 || close(opened) != 0)
+        fail(folder, strerror(errno));
+}
+
 /* The file is whole at any moment: the new bytes go beside it and then take its place. */
 static void save(struct kept *kept, const uint8_t *bytes, size_t length)
 {
@@ -59,6 +70,7 @@ static void save(struct kept *kept, const uint8_t *bytes, size_t length)
     int written = fwrite(bytes, 1, length, file) == length && fflush(file) == 0 && fsync(fileno(file)) == 0;
     if (fclose(file) != 0 || !written || rename(beside, kept->path) != 0)
         fail(kept->path, "cannot be kept");
+    sync_folder(dirname(beside));
     memcpy(kept->bytes, bytes, length);
     kept->length = length;
 }
@@ -138,8 +150,11 @@ int main(int count, char **words)
     char *line = NULL;
     size_t room = 0;
     ssize_t length;
-    for (unsigned long number = 1; (length = getline(&line, &room, stdin)) > 0; number++)
+    for (unsigned long number = 1; (length = getline(&line, &room, stdin)) > 0; number++) {
         all_taken &= take(&statement, &table, line, (size_t)length, number);
+        if (fflush(stdout) != 0)
+            fail("standard output", strerror(errno));
+    }
     free(line);
     return all_taken ? 0 : 1;
 }

@@ -1,4 +1,4 @@
-// The guide's examples of pre-1990 land and of the trees of a hectare (002, 4.5 and 5.2).
+// The guide's examples of pre-1990 land and of the trees of a hectare (002, 4.3, 4.5 and 5.2).
 ghost use mathlib.Core.Path.{_≡_};
 ghost use Rattle.land_trees.specs.{hectareOf};
 use crate::print::say;
@@ -98,28 +98,10 @@ fn determined(groups: [Group; 3]) -> Hectare
     land_trees::determine(&groups)
 }
 
-// Two eucalypts of 12 and 9 years at 3 to 1, beside old kanuka.
-fn mixed_hectare() {
-    let nitens = Group {
-        species: 1,
-        forest: Forest::ExoticHardwoods,
-        age: 12,
-        basal_area: 3000,
-    };
-    let fraxinoides = Group {
-        species: 2,
-        forest: Forest::ExoticHardwoods,
-        age: 9,
-        basal_area: 1000,
-    };
-    let kanuka = Group {
-        species: 3,
-        forest: Forest::Indigenous,
-        age: 90,
-        basal_area: 500,
-    };
-    say(b"\nA mixed hectare:\nEucalypts of 12 and 9 years at 3 to 1, and old kanuka");
-    let hectare = determined([nitens, fraxinoides, kanuka]);
+// The type and age of a hectare, under a name for its trees.
+fn say_hectare(name: &[u8], groups: [Group; 3]) {
+    say(name);
+    let hectare = determined(groups);
     match hectare {
         Hectare::Of { forest, age } => {
             say_forest(b": ", forest);
@@ -130,9 +112,43 @@ fn mixed_hectare() {
     say(b"\n");
 }
 
+fn group(species: u16, forest: Forest, age: u16, basal_area: u32) -> Group {
+    Group {
+        species,
+        forest,
+        age,
+        basal_area,
+    }
+}
+
+// The example of 4.3: "60 percent, 30 percent and 10 percent of the total"; it names no ages.
+fn predominant_species() {
+    let radiata = group(1, Forest::Radiata(Region::Auckland), 28, 60);
+    let redwood = group(2, Forest::ExoticSoftwoods, 30, 30);
+    let muricata = group(3, Forest::ExoticSoftwoods, 15, 10);
+    say(b"\nThe predominant species of the guide's section 4.3, in Northland:\n");
+    say_hectare(
+        b"Radiata, redwood and Pinus muricata of 28, 30 and 15 years at 60, 30 and 10 percent",
+        [radiata, redwood, muricata],
+    );
+}
+
+// Two eucalypts of 12 and 9 years at 3 to 1, beside old kanuka.
+fn mixed_hectare() {
+    let nitens = group(1, Forest::ExoticHardwoods, 12, 3000);
+    let fraxinoides = group(2, Forest::ExoticHardwoods, 9, 1000);
+    let kanuka = group(3, Forest::Indigenous, 90, 500);
+    say(b"\nA mixed hectare:\n");
+    say_hectare(
+        b"Eucalypts of 12 and 9 years at 3 to 1, and old kanuka",
+        [nitens, fraxinoides, kanuka],
+    );
+}
+
 pub(crate) fn print_all() {
     single_stands();
     three_stands();
     replanted_stands();
+    predominant_species();
     mixed_hectare();
 }

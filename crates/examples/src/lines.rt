@@ -1,4 +1,4 @@
-// Lines read and refused, by the bytes (document 01, "Entries" and "Turned back by the input").
+// Lines read and refused, by the bytes (document 01, "Entries" and "Turned back by the input"; 002, 4.6).
 use crate::print::say;
 use crate::print::say_forest;
 use crate::print::say_number;
@@ -82,6 +82,15 @@ fn letters() {
     read(b"P,7,1,D,2011");
     read_named(b"R,7,2010\\n", b"R,7,2010\n");
     read(b"W,7");
+}
+
+// The example of 4.6: stands of 50.15 and 49.17 ha are one sub-area, and are added before they are entered and rounded.
+fn sub_areas() {
+    say(
+        b"\nSub-areas of the guide's section 4.6, 50.15 and 49.17 ha of one age, 91.31 ha of another:\n",
+    );
+    read(b"S,1,1,99.32,P1,1998");
+    read(b"S,1,2,91.31,P1,2003");
 }
 
 // A wrong form is 1, whatever else is wrong.
@@ -178,6 +187,7 @@ fn long_lines() {
 
 pub(crate) fn print_all() {
     letters();
+    sub_areas();
     forms();
     more_forms();
     ranges();
