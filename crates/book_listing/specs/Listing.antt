@@ -14,7 +14,7 @@ use Rattle.book_listing.specs.Lines.{linesOf}
 -- what an entry of a line comes to, on a holding and a table; "T .. extends the table", and the holding stays
 unfoldable pub entryTaken : List ℕ → Holding → List ℕ → Entry → Outcome
 entryTaken own holding line (Entry.Column column) =
-    answered (growable own (holding .count) line column) (accepted Report.Nothing Found.Nowhere (holding .count) emptyArea)
+    answered (growable own (holding .count) line) (accepted Report.Nothing Found.Nowhere (holding .count) emptyArea)
 entryTaken own holding line (Entry.On on) = applied own schedule6 holding on
 
 -- "A line that cannot be read as an entry is refused before the holding is looked at."
@@ -27,7 +27,7 @@ lineTaken own holding line = parsedTaken own holding line (entryOf line)
 
 -- the table that an entry leaves
 abbrev pub entryTable : List ℕ → List ℕ → Entry → List ℕ
-entryTable own line (Entry.Column column) = longerBy own line column
+entryTable own line (Entry.Column column) = longerBy own line
 entryTable own line (Entry.On on) = own
 
 abbrev pub parsedTable : List ℕ → List ℕ → Parsed → List ℕ

@@ -4,7 +4,7 @@ use Rattle.laws.proofs.{ℕ, _+_, _-_, _*_, _≤_, true, _≡_, refl, List, ari
 use Rattle.book_room.specs.{returnWidth, withdrawalWidth}
 use Rattle.refusals.specs.{Verdict}
 use Rattle.units.specs.{Change}
-use Rattle.ranges.specs.{firstYear, lastYear, lastArea, isArea, isYear}
+use Rattle.ranges.specs.{firstYear, lastYear, lastArea, isYear}
 use Rattle.schedules.specs.{schedule6}
 use Rattle.table.specs.{isTable}
 use Rattle.line_entry.specs.{Act, AreaAct}
@@ -49,15 +49,15 @@ module _ (area : Area) (k : AreaKept area) where
       let years = k .fields .years in
       omega (arith, k .fields .amounts .earned, years .ends, years .yearly, year-within (area .opening) (years .opens))
 
-  returned-length : (own : List ℕ) → isTable own ≡ true → (number last : ℕ) → isArea number ≡ true → isYear last ≡ true
-      → length (reportText (returnOf own schedule6 area number last)) ≤ returnWidth
+  returned-length : (own : List ℕ) → isTable own ≡ true → (last : ℕ) → isYear last ≡ true
+      → length (reportText (returnOf own schedule6 area last)) ≤ returnWidth
   unfolding returnOf filedArea
-  returned-length own table number last n y =
+  returned-length own table last y =
       let change = changeOf own schedule6 area last in
       let size : sizeOf change ≤ 960000000 = return-at-most own table area k last in
       let received : receivedOf change ≤ sizeOf change = received-within change in
       return-length _
-      (omega (arith, within 1 number lastArea n))
+      (omega (arith, within 1 (area .number) lastArea (k .fields .number)))
       (omega (arith, k .fields .years .ends))
       (omega (arith, year-within last y))
       (omega arith)
@@ -66,7 +66,7 @@ module _ (area : Area) (k : AreaKept area) where
       (omega (arith, received-at-most))
 
 module _ (own : List ℕ) (table : isTable own ≡ true) (holding : Holding) (kept : AreasKept holding) where
-  filed-length : (number last : ℕ) → length (reportText (filed own schedule6 (lookedUp holding number) number last .report)) ≤ returnWidth
+  filed-length : (number last : ℕ) → length (reportText (filed own schedule6 (lookedUp holding number) last .report)) ≤ returnWidth
   unfolding filed fileCases areaCases
   filed-length number last =
       let found = findArea holding number in
@@ -74,10 +74,9 @@ module _ (own : List ℕ) (table : isTable own ≡ true) (holding : Holding) (ke
       answer-length returnWidth _ _
       (λ e.
       let out = ruled-out (fileCases number last found area) e in
-      returned-length area (area-found holding kept number (not-false (known found) (out 3))) own table number last
-      (not-false (isArea number) (out 0)) (not-false (isYear last) (out 1)))
+      returned-length area (area-found holding kept number (not-false (known found) (out 3))) own table last (not-false (isYear last) (out 1)))
 
-  withdrawn-length : (number : ℕ) → length (reportText (withdrawn (lookedUp holding number) number .report)) ≤ withdrawalWidth
+  withdrawn-length : (number : ℕ) → length (reportText (withdrawn (lookedUp holding number) .report)) ≤ withdrawalWidth
   unfolding withdrawn withdrawCases areaCases
   withdrawn-length number =
       let found = findArea holding number in
@@ -86,11 +85,11 @@ module _ (own : List ℕ) (table : isTable own ≡ true) (holding : Holding) (ke
       (λ e.
       let out = ruled-out (withdrawCases number found area) e in
       let k = area-found holding kept number (not-false (known found) (out 2)) in
-      withdrawal-length number (balanceOf area) (omega (arith, within 1 number lastArea (not-false (isArea number) (out 0))))
+      withdrawal-length (area .number) (balanceOf area) (omega (arith, within 1 (area .number) lastArea (k .fields .number)))
       (omega (arith, received-at-most area k)))
 
   -- an act prints at most what its letter does
-  acted-length : (area : ℕ) (act : Act) → length (reportText (acted own schedule6 (lookedUp holding area) area act .report)) ≤ mostPrinted act
+  acted-length : (area : ℕ) (act : Act) → length (reportText (acted own schedule6 (lookedUp holding area) act .report)) ≤ mostPrinted act
   unfolding opened added cleared planted reportText
   acted-length area (Act.Open opening) = answer-length 0 _ _ (λ e. omega arith)
   acted-length area (Act.Add sub land forest year) = answer-length 0 _ _ (λ e. omega arith)

@@ -1,17 +1,18 @@
 -- Every line leaves a table and a holding that a statement carries: an entry by the laws of its letter, T by the longer table, and a refused line nothing.
-use Rattle.laws.proofs.{ℕ, _*_, _+_, _≤_, Bool, true, cond, _≡_, refl, sym, ap, subst, List, arith, length}
+use Rattle.laws.proofs.{ℕ, _*_, _+_, _≤_, true, _≡_, refl, sym, subst, List, arith, length}
 use Rattle.book_room.specs.{mostForByte}
-use Rattle.refusals.specs.{Verdict, Refusal}
-use Rattle.refusals.proofs.Laws.{clear-before}
+use Rattle.refusals.specs.{Verdict}
 use Rattle.schedules.specs.{schedule6}
 use Rattle.table.specs.{isTable, longestTable}
 use Rattle.table_extend.specs.{begun}
 use Rattle.line_entry.specs.{AreaAct, Entry, Parsed}
 use Rattle.line.specs.{entryOf}
 use Rattle.holding.specs.{Holding, emptyArea, Found}
-use Rattle.step_outcome.specs.{Outcome, accepted, answered, placed, turnedBack, Report}
-use Rattle.step.specs.{applied, stepped}
-use Rattle.table_grow.specs.{lineCells, longerBy, growable}
+use Rattle.step_outcome.specs.{Outcome, accepted, answered, placed, Report}
+use Rattle.step.specs.{applied}
+use Rattle.step.proofs.Entered.{step-is}
+use Rattle.table_grow.specs.{lineColumn, lineCells, longerBy}
+use Rattle.table_grow.proofs.Fits.{grown-extensible}
 use Rattle.book_print.specs.{reportText}
 use Rattle.book_listing.specs.{entryTaken, parsedTaken, lineTaken, entryTable, parsedTable, ifAccepted, tableAfter, Run, start, next}
 use Rattle.theorem_keeping.specs.{Kept}
@@ -23,11 +24,7 @@ use Rattle.book_room.proofs.Reports.{applied-length}
 
 module _ (own : List ℕ) (table : isTable own ≡ true) (holding : Holding) (kept : Kept holding) (line : List ℕ) where
   applied-keeps : (on : AreaAct) → Kept (placed holding (applied own schedule6 holding on))
-  unfolding stepped
-  applied-keeps on =
-      let same : cond (isTable own) (applied own schedule6 holding on) (turnedBack Refusal.TableColumn) ≡ applied own schedule6 holding on =
-      ap (λ (t : Bool). cond t (applied own schedule6 holding on) (turnedBack Refusal.TableColumn)) table in
-      subst (λ (outcome : Outcome). Kept (placed holding outcome)) same (step-keeps own holding on kept)
+  applied-keeps on = subst (λ (outcome : Outcome). Kept (placed holding outcome)) (sym (step-is own holding on table)) (step-keeps own holding on kept)
 
   column-leaves : (v : Verdict) → placed holding (answered v (accepted Report.Nothing Found.Nowhere (holding .count) emptyArea)) ≡ holding
   unfolding answered placed
@@ -55,9 +52,9 @@ module _ (own : List ℕ) (table : isTable own ≡ true) (holding : Holding) (ke
   answered-clear (Verdict.Refused r) outcome e = e
 
   entry-table : (entry : Entry) → entryTaken own holding line entry .verdict ≡ Verdict.Accepted → isTable (entryTable own line entry) ≡ true
-  unfolding entryTaken growable longerBy
+  unfolding entryTaken longerBy
   entry-table (Entry.Column column) e =
-      extended-table (begun own) column (lineCells line) longestTable (clear-before _ _ Refusal.TableAfterArea (answered-clear _ _ e))
+      extended-table (begun own) (lineColumn line) (lineCells line) longestTable (grown-extensible own (holding .count) line (answered-clear _ _ e) .1)
   entry-table (Entry.On on) e = table
 
   parsed-table : (p : Parsed) → parsedTaken own holding line p .verdict ≡ Verdict.Accepted → isTable (parsedTable own line p) ≡ true

@@ -1,5 +1,6 @@
 -- How short a line of an entry that prints can be: R has three fields, of which the last is a year, and W has two.
-use Rattle.laws.proofs.{ℕ, zero, suc, _+_, _-_, _*_, _/_, _≤_, _<_, Bool, true, false, cond, not, _≡_, refl, ap, List, [], _∷_, arith, eqb, eqb-true, not-false, length, getD, take, length-take}
+use Rattle.laws.proofs.Elements.{or-false-right}
+use Rattle.laws.proofs.{ℕ, zero, suc, _+_, _-_, _*_, _/_, _≤_, _<_, Bool, true, false, cond, _≡_, refl, ap, List, [], _∷_, arith, eqb, eqb-true, not-false, length, getD, take, length-take}
 use Rattle.book_room.specs.{returnWidth, withdrawalWidth, mostForByte}
 use Rattle.text.specs.{digits, extend, split, fieldAt}
 use Rattle.text.proofs.Digits.{length-digits-step, digits-some}
@@ -9,7 +10,7 @@ use Rattle.text_value.proofs.Laws.{inside}
 use Rattle.text_number.proofs.RoundTrip.{canonical}
 use Rattle.refusals.specs.{Verdict, smallest}
 use Rattle.refusals.proofs.Laws.{RuledOut, ruled-out}
-use Rattle.line_entry.specs.{Act, Entry, Rule, parsed, areaAndYear, openRule, addRule, clearRule, plantRule, fileRule, withdrawRule, Parsed}
+use Rattle.line_entry.specs.{Act, Entry, Rule, parsed, misnamed, misformed, areaAndYear, openRule, addRule, clearRule, plantRule, fileRule, withdrawRule, Parsed}
 use Rattle.line_column.specs.{columnRule}
 use Rattle.line.specs.{bodyOf, noRule, ruleOf, lineRule, conditions, entryOf}
 use Rattle.theorem_keeping.proofs.Tests.{clash}
@@ -74,16 +75,16 @@ mostPrintedBy (Entry.Column column) = 0
 mostPrintedBy (Entry.On on) = mostPrinted (on .act)
 
 module _ (s : List ℕ) where
-  counted : (n : ℕ) → not (eqb (length (split s)) n) ≡ false → length (split s) ≡ n
-  counted n e = eqb-true (length (split s)) n (not-false _ e)
+  counted : (letter n : ℕ) → misformed letter n (split s) ≡ false → length (split s) ≡ n
+  counted letter n e = eqb-true (length (split s)) n (not-false _ (or-false-right (misnamed letter (split s)) _ e))
 
-  file-wide : RuledOut (areaAndYear (split s)) → 6 ≤ length s
+  file-wide : (letter : ℕ) → RuledOut (areaAndYear letter (split s)) → 6 ≤ length s
   unfolding areaAndYear
-  file-wide n = omega (arith, counted 3 (n 0), field-fits s 2 (omega (arith, counted 3 (n 0))), year-digits _ (n 4))
+  file-wide letter n = omega (arith, counted letter 3 (n 0), field-fits s 2 (omega (arith, counted letter 3 (n 0))), year-digits _ (n 4))
 
   withdraw-wide : RuledOut (withdrawRule (split s) .cases) → 1 ≤ length s
   unfolding withdrawRule
-  withdraw-wide n = omega (arith, field-fits s 1 (omega (arith, counted 2 (n 0))))
+  withdraw-wide n = omega (arith, field-fits s 1 (omega (arith, counted _ 2 (n 0))))
 
   rule-wide : (letter : ℕ) → RuledOut (ruleOf letter (split s) .cases) → mostPrintedBy (ruleOf letter (split s) .entry) ≤ mostForByte * (length s + 1)
   unfolding ruleOf columnRule openRule addRule clearRule plantRule fileRule noRule withdrawRule
@@ -106,7 +107,7 @@ module _ (s : List ℕ) where
       go false false true c p r w n = omega arith
       go false false false true p r w n = omega arith
       go false false false false true r w n = omega arith
-      go false false false false false true w n = omega (arith, file-wide n)
+      go false false false false false true w n = omega (arith, file-wide _ n)
       go false false false false false false true n = omega (arith, withdraw-wide n)
       go false false false false false false false n = clash (n 0)
 

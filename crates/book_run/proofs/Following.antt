@@ -1,5 +1,5 @@
 -- A turn of the loop is a turn of the fold: the code's table, holding and counts after a line are those of the run that follows.
-use Rattle.laws.proofs.{ℕ, _+_, _-_, _≡_, refl, ap, _∙_, List, arith, length, length-set}
+use Rattle.laws.proofs.{ℕ, _+_, _-_, _≡_, refl, ap, _∙_, List, arith, length, take, length-set}
 use Rattle.refusals.specs.{Verdict}
 use Rattle.schedules.specs.{schedule6}
 use Rattle.line_entry.specs.{Parsed}
@@ -8,10 +8,10 @@ use Rattle.holding.specs.{Area, Holding, Found}
 use Rattle.holding_look.specs.{Looked, areaAt, lookedAt}
 use Rattle.holding_look.proofs.Laws.{looked-as}
 use Rattle.step_outcome.specs.{Outcome, placedAt, placed}
-use Rattle.book_listing.specs.{lineTaken, ifAccepted, tableAfter, Run, next, printedFor, printed}
-use Rattle.book_take.specs.{Turn, parsedTurn, foundFor, turnOf}
-use Rattle.book_run.specs.{tableBy}
-use Rattle.book_run.proofs.Turns.{turn-outcome, turn-table}
+use Rattle.book_listing.specs.{lineTaken, parsedTable, ifAccepted, tableAfter, Run, next, printedFor, printed}
+use Rattle.book_find.specs.{Named, namedBy}
+use Rattle.book_run.specs.{lineOutcome, TakesLine}
+use Rattle.book_run.proofs.Turns.{line-taken}
 
 -- a step leaves as many places for areas as there were
 pub placed-long : (holding : Holding) (outcome : Outcome) → length (placed holding outcome .areas) ≡ length (holding .areas)
@@ -26,40 +26,39 @@ one-or-none : (v : Verdict) (a r : ℕ) → (a + ifAccepted v 1 0 ≡ ifAccepted
 one-or-none Verdict.Accepted a r = omega arith
 one-or-none (Verdict.Refused refusal) a r = omega arith
 
--- the turn of a line as it was read, on the area that was looked up, is the line's
-pub turn-is-of : (own default : List ℕ) (holding : Holding) (line : List ℕ) (parsed : Parsed) (found : Found) (area : Area) (turn : Turn)
-    → turn ≡ parsedTurn own default (record { count = holding .count; found = found; area = area }) line parsed
-    → parsed ≡ entryOf line → found ≡ foundFor holding parsed → area ≡ areaAt holding found → turn ≡ turnOf own default holding line
-unfolding turnOf
-turn-is-of own default holding line parsed found area turn t p f a =
-    t
-    ∙ ap (λ (x : Looked). parsedTurn own default x line parsed) (looked-as holding found _ area f a)
-    ∙ ap (λ (x : Parsed). parsedTurn own default (lookedAt holding (foundFor holding x)) line x) p
+-- a line taken on the area that was looked up, with the run's own table and the cells of Schedule 6
+module _ (run : Run) (line default : List ℕ) (parsed : Parsed) (names : Named) (found : Found) (area : Area) (numbers : List ℕ) (count : ℕ) (outcome : Outcome)
+    (t : TakesLine (run .own) default (record { number = names .number; count = run .holding .count; found = found; area = area }) line numbers count outcome)
+    (p : parsed ≡ entryOf line) (n : names ≡ namedBy (run .holding) parsed) (f : found ≡ names .found) (a : area ≡ areaAt (run .holding) found)
+    (d : default ≡ schedule6) where
+  abbrev lookedAs : Named → Looked
+  lookedAs x = lookedAt (run .holding) (x .number) (x .found)
 
--- the turn of a line, taken with the run's own table and the cells of Schedule 6
-module _ (run : Run) (line own default : List ℕ) (turn : Turn) (t : turn ≡ turnOf own default (run .holding) line) (o : own ≡ run .own) (d : default ≡ schedule6) where
-  turn-is : turn ≡ turnOf (run .own) schedule6 (run .holding) line
-  turn-is = t ∙ simp (o, d)
+  taken-is : lineOutcome (run .own) default (record { number = names .number; count = run .holding .count; found = found; area = area }) line
+      ≡ lineTaken (run .own) (run .holding) line
+  taken-is =
+      ap (λ (x : Looked). lineOutcome (run .own) default x line) (looked-as (run .holding) (names .number) found (names .found) area f a)
+      ∙ ap (λ (x : Named). lineOutcome (run .own) default (lookedAs x) line) (n ∙ ap (namedBy (run .holding)) p)
+      ∙ ap (λ (l : List ℕ). lineOutcome (run .own) l (lookedAs (namedBy (run .holding) (entryOf line))) line) d
+      ∙ line-taken (run .own) (run .holding) line
 
-  outcome-is : turn .outcome ≡ lineTaken (run .own) (run .holding) line
-  outcome-is = ap (λ (x : Turn). x .outcome) turn-is ∙ turn-outcome (run .own) (run .holding) line
+  outcome-is : outcome ≡ lineTaken (run .own) (run .holding) line
+  outcome-is = t .comes ∙ taken-is
 
-  pub turn-prints : printedFor (run .accepted + run .refused + 1) (turn .outcome .verdict) (turn .outcome) ≡ printed run line
+  pub turn-prints : printedFor (run .accepted + run .refused + 1) (outcome .verdict) outcome ≡ printed run line
   unfolding printed
   turn-prints = ap (λ (x : Outcome). printedFor (run .accepted + run .refused + 1) (x .verdict) x) outcome-is
 
-  pub turn-runs : (table : List ℕ) (holding : Holding) (accepted refused taken : ℕ) → table ≡ tableBy (run .own) (run .holding .count) line (turn .column)
-      → holding ≡ placed (run .holding) (turn .outcome) → taken ≡ ifAccepted (turn .outcome .verdict) 1 0
+  pub turn-runs : (holding : Holding) (accepted refused taken : ℕ)
+      → holding ≡ placed (run .holding) outcome → taken ≡ ifAccepted (outcome .verdict) 1 0
       → accepted ≡ run .accepted + taken → refused ≡ run .refused + (1 - taken)
-      → record { own = table; holding = holding; accepted = accepted; refused = refused } ≡ next run line
-  unfolding next
-  turn-runs table holding accepted refused taken b h k a r =
-      let v = turn .outcome .verdict in
+      → record { own = take count numbers; holding = holding; accepted = accepted; refused = refused } ≡ next run line
+  unfolding next tableAfter
+  turn-runs holding accepted refused taken h k a r =
+      let v = outcome .verdict in
       let w : v ≡ lineTaken (run .own) (run .holding) line .verdict = ap (λ (x : Outcome). x .verdict) outcome-is in
-      let grown : table ≡ tableAfter (run .own) (run .holding) line =
-      b
-      ∙ ap (λ (x : Turn). tableBy (run .own) (run .holding .count) line (x .column)) turn-is
-      ∙ turn-table (run .own) (run .holding) line in
+      let grown : take count numbers ≡ tableAfter (run .own) (run .holding) line =
+      t .leaves .front ∙ ap (λ (x : Outcome). ifAccepted (x .verdict) (parsedTable (run .own) line (entryOf line)) (run .own)) taken-is in
       let stands : holding ≡ placed (run .holding) (lineTaken (run .own) (run .holding) line) = h ∙ ap (placed (run .holding)) outcome-is in
       let counts = one-or-none v (run .accepted) (run .refused) in
       let more : accepted ≡ ifAccepted (lineTaken (run .own) (run .holding) line .verdict) (run .accepted + 1) (run .accepted) =

@@ -4,37 +4,85 @@ ghost use Prim.Native.Nat.{_≤_};
 ghost use lib.ListN.{length, take};
 ghost use Rattle.table.specs.{longestTable};
 ghost use Rattle.text.specs.{Wrote};
+ghost use Rattle.line.specs.{entryOf};
 ghost use Rattle.book_listing.specs.{linesOf, listingOf, longestBook};
-ghost use Rattle.book_run.specs.{tableBy, Fronts, RunOf};
+ghost use Rattle.book_run.specs.{refusalIn, TakesColumn, TakesLine, RunOf};
 use book_listing::LONGEST_BOOK;
 use holding::Found;
 use holding::Holding;
 use holding::MOST_AREAS;
 use holding_look::Looked;
+use line_entry::Entry;
+use line_entry::Parsed;
 use refusals::Refusal;
+use refusals::Verdict;
+use step_outcome::Outcome;
+use step_outcome::Report;
 use table::LONGEST_TABLE;
 
-// Grows the table where a T line was accepted; the answer is its length. `book_take::take` has grown it once to judge the line: at most ten
-// lines of a book are accepted T lines, and so no turn has a table to carry.
-fn extend(
+// T extends the table in place, and leaves the holding.
+fn take_column(
     table: &mut [u16; LONGEST_TABLE],
-    count: usize,
+    count: &mut usize,
     areas: usize,
     line: &[u8],
-    column: Found,
-) -> usize
-    requires { ⌜ (count ≤ longestTable) × (length (now table) ≡ longestTable) ⌝ }
-    ensures { λ r. ⌜ Fronts (now (table .exit)) r (tableBy (take count (now (table .entry))) areas (now (line .entry)) column) ⌝ }
+) -> Outcome
+    requires { ⌜ (now count ≤ longestTable) × (length (now table) ≡ longestTable) ⌝ }
+    ensures { λ r. ⌜ TakesColumn (take (now (count .entry)) (now (table .entry))) areas (now (line .entry)) (now (table .exit)) (now (count .exit)) r ⌝ }
 {
-    match column {
-        Found::At(k) => {
-            let own = &table[..];
-            let grown = table_grow::grow(&own[0..count], areas, line, k);
+    let own = &table[..];
+    let grown = table_grow::grow(&own[0..*count], areas, line);
+    let verdict = grown.verdict;
+    match verdict {
+        Verdict::Refused(refusal) => step_outcome::turned(refusal),
+        Verdict::Accepted => {
             let numbers = grown.numbers;
             *table = numbers;
-            grown.count
+            *count = grown.count;
+            let area = holding::empty_area();
+            Outcome {
+                verdict: Verdict::Accepted,
+                report: Report::Nothing,
+                place: Found::Nowhere,
+                count: areas,
+                area,
+            }
         }
-        Found::Nowhere => count,
+    }
+}
+
+// Why a line is no entry.
+fn refusal_in(parsed: Parsed) -> Refusal
+    ensures { λ r. ⌜ r ≡ refusalIn parsed ⌝ }
+{
+    match parsed {
+        Parsed::Refused(refusal) => refusal,
+        Parsed::Taken(_) => Refusal::Form,
+    }
+}
+
+// What a line comes to, as it was read, on the area that it names. An act on an area leaves the table.
+fn take_line(
+    table: &mut [u16; LONGEST_TABLE],
+    count: &mut usize,
+    default: &[u16],
+    looked: Looked,
+    line: &[u8],
+    parsed: Parsed,
+) -> Outcome
+    requires { ⌜ (now count ≤ longestTable) × (length (now table) ≡ longestTable) × (parsed ≡ entryOf (now line)) ⌝ }
+    ensures { λ r. ⌜ TakesLine (take (now (count .entry)) (now (table .entry))) (now (default .entry)) looked (now (line .entry)) (now (table .exit)) (now (count .exit)) r ⌝ }
+{
+    let Parsed::Taken(entry) = parsed else {
+        return step_outcome::turned(refusal_in(parsed));
+    };
+    match entry {
+        Entry::Column { column: _ } => take_column(table, count, looked.count, line),
+        Entry::On(on) => {
+            let own = &table[..];
+            let act = on.act;
+            step::apply_to(&own[0..*count], default, looked, act)
+        }
     }
 }
 
@@ -62,7 +110,8 @@ fn put_lines(book: &[u8], out: &mut [u8]) -> Ran
     while i < book.len() {
         let end = text::end_of(book, i, b'\n');
         let parsed = line::parse(&book[i..end]);
-        let found = book_take::find(holding, parsed);
+        let names = book_find::find(holding, parsed);
+        let found = names.found;
         let mut named = holding::empty_area();
         if let Found::At(k) = found {
             if k < MOST_AREAS {
@@ -70,14 +119,19 @@ fn put_lines(book: &[u8], out: &mut [u8]) -> Ran
             }
         }
         let looked = Looked {
+            number: names.number,
             count: holding.count,
             found,
             area: named,
         };
-        let turn = book_take::take(&table[0..count], &default, looked, &book[i..end], parsed);
-        let column = turn.column;
-        count = extend(&mut table, count, holding.count, &book[i..end], column);
-        let outcome = turn.outcome;
+        let outcome = take_line(
+            &mut table,
+            &mut count,
+            &default,
+            looked,
+            &book[i..end],
+            parsed,
+        );
         at = book_listing::put_line(out, at, accepted + refused + 1, outcome);
         let verdict = outcome.verdict;
         let taken = book_listing::counted(verdict);

@@ -1,8 +1,8 @@
 -- What a call answers and writes. On a statement that is the writer's and a table's own bytes the verdict is the line's own, so that the call
 -- answers what `book` finds; where there is room, the bytes stand in front.
-use Rattle.laws.proofs.{ℕ, zero, suc, _≤_, _<_, _≡_, refl, sym, ap, _∙_, true, List, _++_, arith, le-leb, le-ltb, length, drop}
-use lib.IntN.{pos, negsuc, negℤ}
-use Rattle.refusals.specs.{Refusal, numberOf, weighed, bufferAfter, Verdict}
+use Rattle.laws.proofs.{ℕ, zero, suc, _≤_, _<_, _≡_, refl, sym, ap, _∙_, Bool, true, cond, List, [], _++_, arith, le-leb, le-ltb, length, take, drop, take-append-seam}
+use lib.IntN.{ℤ, pos, negsuc, negℤ}
+use Rattle.refusals.specs.{smaller, Refusal, numberOf, weighed, bufferAfter, Verdict}
 use Rattle.refusals.proofs.Laws.{number-range}
 use Rattle.table.specs.{isTable}
 use Rattle.table_bytes.specs.{numbersOf}
@@ -15,12 +15,26 @@ use Rattle.book_listing.specs.{parsedTaken, lineTaken}
 use Rattle.theorem_keeping.specs.{Kept}
 use Rattle.theorem_round_trips.proofs.Trips.{accepts-that}
 use Rattle.call_output.specs.{tableBytes}
-use Rattle.call_line.specs.{lineVerdict, tableVerdict, smaller, callVerdict, parsedBytes, callBytes, withRoom, callWeighed, callAnswer, callOutput}
+use Rattle.call_line.specs.{lineVerdict, tableVerdict, callVerdict, parsedBytes, callBytes, withRoom, callWeighed, callAnswer, callOutput}
+use Rattle.call_book.specs.{Caller, isColumnLine, reportIn, taken, answered, afterCall, shown, shownAfter}
 use Rattle.call_book.proofs.Tables.{numbers-back, table-accepted}
 
--- ---- with room
+-- ---- by the verdict
 
 module _ (statement table line out : List ℕ) where
+  abbrev bytes : List ℕ
+  bytes = callBytes statement table line
+
+  pub answer-refused : (r : Refusal) → callWeighed statement table line (length out) ≡ Verdict.Refused r
+      → (callAnswer statement table line (length out) ≡ negℤ (pos (numberOf r))) × (callOutput statement table line out ≡ out)
+  unfolding callAnswer callOutput bufferAfter
+  answer-refused r w = (rw w, rw w)
+
+  pub answer-accepted : callWeighed statement table line (length out) ≡ Verdict.Accepted
+      → (callAnswer statement table line (length out) ≡ pos (length bytes)) × (callOutput statement table line out ≡ bytes ++ drop (length bytes) out)
+  unfolding callAnswer callOutput bufferAfter
+  answer-accepted w = (rw w, rw w)
+
   weighed-refused : (r : Refusal) → callVerdict statement table line ≡ Verdict.Refused r → callWeighed statement table line (length out) ≡ Verdict.Refused r
   unfolding callWeighed withRoom weighed
   weighed-refused r e = rw e
@@ -63,13 +77,37 @@ module _ (own : List ℕ) (holding : Holding) (kept : Kept holding) (isOwn : isT
 
   pub refused-call : (r : Refusal) → lineTaken own holding line .verdict ≡ Verdict.Refused r
       → (callAnswer statement table line (length out) ≡ negℤ (pos (numberOf r))) × (callOutput statement table line out ≡ out)
-  unfolding callAnswer callOutput bufferAfter
-  refused-call r e = let w = weighed-refused statement table line out r (own-verdict ∙ e) in (rw w, rw w)
+  refused-call r e = answer-refused statement table line out r (weighed-refused statement table line out r (own-verdict ∙ e))
 
   pub accepted-call : lineTaken own holding line .verdict ≡ Verdict.Accepted → length (callBytes statement table line) ≤ length out
       → (let written = parsedBytes own holding line (entryOf line) in
       (callAnswer statement table line (length out) ≡ pos (length written)) × (callOutput statement table line out ≡ written ++ drop (length written) out))
-  unfolding callAnswer callOutput bufferAfter
-  accepted-call e h =
-      let w = weighed-accepted statement table line out (own-verdict ∙ e) h in
-      (rw (w, own-bytes), rw (w, own-bytes))
+  accepted-call e h = rw (← own-bytes) (answer-accepted statement table line out (weighed-accepted statement table line out (own-verdict ∙ e) h))
+
+-- ---- the program after a call
+
+module _ (caller : Caller) (line : List ℕ) where
+  abbrev outputIs : List ℕ → Type 0
+  outputIs out = callOutput (caller .statement) (caller .table) line (caller .out) ≡ out
+
+  abbrev answerIs : ℤ → Type 0
+  answerIs answer = callAnswer (caller .statement) (caller .table) line (length (caller .out)) ≡ answer
+
+  -- by the call's output and answer
+  pub by-answer : (out : List ℕ) (answer : ℤ) → outputIs out → answerIs answer
+      → (afterCall caller line ≡ answered caller line out answer) × (shownAfter caller line ≡ shown caller line out answer)
+  unfolding afterCall shownAfter
+  by-answer out answer p q = (rw (p, q), rw (p, q))
+
+  -- where the call is accepted its bytes stand in front, and all of them are taken
+  pub by-written : (written : List ℕ) → outputIs (written ++ drop (length written) (caller .out)) → answerIs (pos (length written))
+      → (t : Bool) → isColumnLine line ≡ t
+      → (afterCall caller line ≡ taken caller t (written ++ drop (length written) (caller .out)) written)
+      × (shownAfter caller line ≡ cond t [] (reportIn written))
+  by-written written p q t column =
+      let out = written ++ drop (length written) (caller .out) in
+      let after = by-answer out (pos (length written)) p q in
+      let front = take-append-seam written (drop (length written) (caller .out)) in (
+        after .0 ∙ ap (λ (b : Bool). taken caller b out (take (length written) out)) column ∙ ap (taken caller t out) front,
+        after .1 ∙ ap (λ (b : Bool). cond b [] (reportIn (take (length written) out))) column ∙ ap (λ (l : List ℕ). cond t [] (reportIn l)) front,
+      )

@@ -1,6 +1,6 @@
 -- What a call writes at most: its holding is kept, so that the statement and the report are no longer than their fields' widths; a table is shorter.
 -- With an output of that length a book run line by line through the call gives the listing of `book`.
-use Rattle.laws.proofs.{ℕ, _≤_, _≡_, _∙_, true, not, List, arith, not-false, le-ltb, length, length-append}
+use Rattle.laws.proofs.{ℕ, _≤_, _≡_, _∙_, true, not, List, [], arith, not-false, le-ltb, length, length-append}
 use Rattle.refusals.specs.{Refusal, Verdict}
 use Rattle.refusals.proofs.Laws.{clear-last}
 use Rattle.table.specs.{longestTable, isTable}
@@ -32,7 +32,7 @@ use Rattle.call_book.proofs.Lengths.{statement-few}
 use Rattle.call_book.proofs.CallsList.{calls-list-within}
 
 -- a table that is accepted is one
-table-is : (table : List ℕ) → tableVerdict table ≡ Verdict.Accepted → isTable (numbersOf table) ≡ true
+pub table-is : (table : List ℕ) → tableVerdict table ≡ Verdict.Accepted → isTable (numbersOf table) ≡ true
 unfolding tableVerdict
 table-is table e = not-false _ (clear-last (decodable table longestTable) (not (isTable (numbersOf table))) Refusal.TableColumn e)
 
@@ -40,8 +40,8 @@ module _ (own : List ℕ) (holding : Holding) (isOwn : isTable own ≡ true) (ke
   entry-few : (entry : Entry) → entryTaken own holding line entry .verdict ≡ Verdict.Accepted → length (entryBytes own holding line entry) ≤ mostWritten
   unfolding entryBytes entryTaken
   entry-few (Entry.Column column) e =
-      let grown = accepted-column (growable own (holding .count) line column) holding e .0 in
-      omega (arith, bytes-length (longerBy own line column), longer-fits own (holding .count) line column grown)
+      let grown = accepted-column (growable own (holding .count) line) holding e .0 in
+      omega (arith, bytes-length (longerBy own line), longer-fits own (holding .count) line grown)
   entry-few (Entry.On on) e =
       let outcome = applied own schedule6 holding on in
       let after = placed holding outcome in
@@ -66,10 +66,10 @@ call-few statement table line e =
     parsed-few (numbersOf table) (readOf statement .holding) (table-is table (parts .1)) (read-kept statement (parts .2)) line (entryOf line) (parts .3)
 
 -- each line is taken by a call; the statement, the table and the output of one call go to the next
-pub calls-list : (out : List ℕ) → mostWritten ≤ length out → (lines : List (List ℕ)) → callsFrom (begin out) lines ≡ listFrom start lines
+pub calls-list : (out : List ℕ) → mostWritten ≤ length out → (lines : List (List ℕ)) → callsFrom (begin [] out) lines ≡ listFrom start lines
 calls-list out room lines = calls-list-within mostWritten call-few out room lines
 
 -- so a book that `book` reads is run by calls as `book` runs it
-pub calls-book : (out book : List ℕ) → mostWritten ≤ length out → length book ≤ longestBook → callsFrom (begin out) (linesOf book) ≡ listingOf book
+pub calls-book : (out book : List ℕ) → mostWritten ≤ length out → length book ≤ longestBook → callsFrom (begin [] out) (linesOf book) ≡ listingOf book
 unfolding listingOf
 calls-book out book room short = calls-list out room (linesOf book) ∙ simp (le-ltb longestBook (length book) short)

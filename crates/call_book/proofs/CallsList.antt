@@ -1,29 +1,30 @@
 -- A book run line by line through the call gives the listing of `book`: after every line the program keeps the bytes of the holding and of the
 -- table that the listing carries, so every call is asked what `book` asks itself, and answers and prints the same.
-use Rattle.laws.proofs.{ℕ, suc, _+_, _≤_, _≡_, refl, sym, ap, subst, _∙_, Bool, true, false, cond, List, [], _∷_, _++_, arith, length, take, drop, length-append, length-drop, take-append-seam}
-use lib.IntN.{ℤ, pos, negsuc}
-use Rattle.refusals.specs.{Refusal, Verdict, numberOf}
+use Rattle.laws.proofs.{ℕ, suc, _+_, _≤_, _≡_, refl, sym, ap, subst, _∙_, Bool, true, false, cond, List, [], _∷_, _++_, arith, length, drop, length-append, length-drop}
+use lib.IntN.{pos, negsuc}
+use Rattle.refusals.specs.{Refusal, Verdict}
 use Rattle.table.specs.{isTable}
 use Rattle.line_entry.specs.{AreaAct, Entry, Parsed}
 use Rattle.line.specs.{entryOf}
+use Rattle.line.proofs.Columns.{isColumn}
 use Rattle.holding.specs.{Holding}
 use Rattle.step_outcome.specs.{Outcome, placed}
 use Rattle.statement_format.specs.{statementOf}
 use Rattle.table_grow.specs.{growable, longerBy}
 use Rattle.book_print.specs.{reportText, refusalText, pairText}
-use Rattle.book_listing.specs.{entryTaken, parsedTaken, lineTaken, parsedTable, tableAfter, Run, next, printedFor, printed, listFrom, start}
+use Rattle.book_listing.specs.{entryTaken, parsedTaken, lineTaken, parsedTable, Run, next, printed, listFrom, start}
 use Rattle.book_listing.proofs.Folding.{list-line, list-none}
 use Rattle.theorem_keeping.specs.{Kept}
 use Rattle.theorem_keeping.proofs.Keeping.{empty-kept}
 use Rattle.call_output.specs.{tableBytes}
-use Rattle.call_line.specs.{stateBytes, entryBytes, parsedBytes, callVerdict, callBytes, callAnswer, callOutput}
+use Rattle.call_line.specs.{stateBytes, entryBytes, parsedBytes, callVerdict, callBytes}
 use Rattle.call_line.proofs.Sorts.{accepted-column}
-use Rattle.call_book.specs.{Caller, begin, statementIn, reportIn, taken, answered, afterCall, shown, shownAfter, callsFrom}
+use Rattle.call_book.specs.{Caller, begin, statementIn, reportIn, taken, afterCall, shownAfter, callsFrom}
 use Rattle.call_book.proofs.Split.{statement-split, report-split}
-use Rattle.call_book.proofs.ColumnLines.{isColumn, column-line}
+use Rattle.call_book.proofs.ColumnLines.{column-line}
 use Rattle.call_book.proofs.Tables.{longer-table}
-use Rattle.call_book.proofs.Taken.{line-leaves, act-kept}
-use Rattle.call_book.proofs.Answers.{refused-call, accepted-call, own-verdict, minus-number}
+use Rattle.call_book.proofs.Taken.{line-leaves, act-kept, next-refused, next-accepted, printed-refused, printed-accepted}
+use Rattle.call_book.proofs.Answers.{by-answer, by-written, refused-call, accepted-call, own-verdict, minus-number}
 
 -- the program keeps what the listing carries, as bytes
 record Follows (most : ℕ) (caller : Caller) (run : Run) : Type 0 where
@@ -56,42 +57,16 @@ module _ (most : ℕ) (caller : Caller) (run : Run) (f : Follows most caller run
   abbrev needed : ℕ
   needed = length (callBytes (caller .statement) (caller .table) line)
 
-  -- what a call comes to, by its answer and its output
-  by-answer : (out : List ℕ) (answer : ℤ) → callOutput (caller .statement) (caller .table) line (caller .out) ≡ out
-      → callAnswer (caller .statement) (caller .table) line (length (caller .out)) ≡ answer
-      → (afterCall caller line ≡ answered caller line out answer) × (shownAfter caller line ≡ shown caller line out answer)
-  unfolding afterCall shownAfter
-  by-answer out answer p q = (rw (p, q), rw (p, q))
-
-  -- what the listing comes to, by the verdict
-  next-refused : (r : Refusal) → outcome .verdict ≡ Verdict.Refused r → placed holding outcome ≡ holding
-      → next run line ≡ record { own = own; holding = holding; accepted = run .accepted; refused = run .refused + 1 }
-  unfolding next tableAfter placed
-  next-refused r e leaves = rw (e, leaves)
-
-  next-accepted : (more : List ℕ) (after : Holding) → outcome .verdict ≡ Verdict.Accepted → parsedTable own line (entryOf line) ≡ more → placed holding outcome ≡ after
-      → next run line ≡ record { own = more; holding = after; accepted = run .accepted + 1; refused = run .refused }
-  unfolding next tableAfter placed
-  next-accepted more after e p q = rw (e, p, q)
-
-  printed-refused : (r : Refusal) → outcome .verdict ≡ Verdict.Refused r → printed run line ≡ pairText 88 (run .accepted + run .refused + 1) (numberOf r)
-  unfolding printed printedFor refusalText
-  printed-refused r e = rw e
-
-  printed-accepted : outcome .verdict ≡ Verdict.Accepted → printed run line ≡ reportText (outcome .report)
-  unfolding printed printedFor
-  printed-accepted e = rw e
-
   refused-matches : (r : Refusal) → outcome .verdict ≡ Verdict.Refused r → Matches most caller run line
-  unfolding lineTaken
+  unfolding lineTaken refusalText
   refused-matches r e =
       let call = refused-call own holding (f .kept) (f .isOwn) (caller .statement) (caller .table) line (caller .out) (f .statement) (f .table) r e in
       let minus = minus-number r in
-      let after = by-answer (caller .out) (negsuc (minus .0)) (call .1) (call .0 ∙ minus .1) in
+      let after = by-answer caller line (caller .out) (negsuc (minus .0)) (call .1) (call .0 ∙ minus .1) in
       let leaves = line-leaves own holding (f .isOwn) line (entryOf line) r e in
       let number : caller .accepted + caller .refused + 1 ≡ run .accepted + run .refused + 1 = omega (arith, f .accepted, f .refused) in
       record {
-        follows = follows-as (after .0) (next-refused r e leaves) (record {
+        follows = follows-as (after .0) (next-refused run line r e leaves) (record {
           statement = f .statement;
           table = f .table;
           room = f .room;
@@ -102,7 +77,7 @@ module _ (most : ℕ) (caller : Caller) (run : Run) (f : Follows most caller run
         });
         prints =
             after .1 ∙ ap (λ (n : ℕ). pairText 88 n (suc (minus .0))) number
-            ∙ ap (pairText 88 (run .accepted + run .refused + 1)) (minus .2) ∙ sym (printed-refused r e);
+            ∙ ap (pairText 88 (run .accepted + run .refused + 1)) (minus .2) ∙ sym (printed-refused run line r e);
       }
 
   -- an accepted call: its output stands in front, and all of it is taken
@@ -120,12 +95,7 @@ module _ (most : ℕ) (caller : Caller) (run : Run) (f : Follows most caller run
         let call = accepted-call own holding (f .kept) (f .isOwn) (caller .statement) (caller .table) line (caller .out) (f .statement) (f .table) clear room in
         let whole = ap (λ (p : Parsed). parsedBytes own holding line p) read in
         let left = call .1 ∙ ap (λ (b : List ℕ). b ++ drop (length b) (caller .out)) whole in
-        let after = by-answer out (pos (length written)) left (call .0 ∙ ap (λ (b : List ℕ). pos (length b)) whole) in
-        let column = sym (column-line line entry read) ∙ e in
-        let front = take-append-seam written (drop (length written) (caller .out)) in (
-          after .0 ∙ ap (λ (b : Bool). taken caller b out (take (length written) out)) column ∙ ap (taken caller t out) front,
-          after .1 ∙ ap (λ (b : Bool). cond b [] (reportIn (take (length written) out))) column ∙ ap (λ (l : List ℕ). cond t [] (reportIn l)) front,
-        )
+        by-written caller line written left (call .0 ∙ ap (λ (b : List ℕ). pos (length b)) whole) t (sym (column-line line entry read) ∙ e)
 
     enough-room : most ≤ length out
     enough-room = omega (arith, f .room, length-append written (drop (length written) (caller .out)), length-drop (length written) (caller .out))
@@ -139,19 +109,19 @@ module _ (most : ℕ) (caller : Caller) (run : Run) (f : Follows most caller run
   column-matches column clear enough read =
       let after = accepted-after clear enough (Entry.Column column) read true refl in
       let same = by-entry clear enough (Entry.Column column) read in
-      let grown = accepted-column (growable own (holding .count) line column) holding (ap (λ (o : Outcome). o .verdict) (sym same) ∙ clear) in
+      let grown = accepted-column (growable own (holding .count) line) holding (ap (λ (o : Outcome). o .verdict) (sym same) ∙ clear) in
       record {
         follows = follows-as (after .0)
-            (next-accepted (longerBy own line column) holding clear (ap (parsedTable own line) read) (ap (placed holding) (same ∙ grown .1))) (record {
+            (next-accepted run line (longerBy own line) holding clear (ap (parsedTable own line) read) (ap (placed holding) (same ∙ grown .1))) (record {
               statement = f .statement;
               table = refl;
               room = enough-room clear enough (Entry.Column column) read;
               accepted = ap (λ (n : ℕ). n + 1) (f .accepted);
               refused = f .refused;
               kept = f .kept;
-              isOwn = longer-table own (holding .count) line column (grown .0);
+              isOwn = longer-table own (holding .count) line (grown .0);
             });
-        prints = after .1 ∙ sym (printed-accepted clear ∙ ap (λ (o : Outcome). reportText (o .report)) (same ∙ grown .1));
+        prints = after .1 ∙ sym (printed-accepted run line clear ∙ ap (λ (o : Outcome). reportText (o .report)) (same ∙ grown .1));
       }
 
   act-matches : (on : AreaAct) → outcome .verdict ≡ Verdict.Accepted → needed ≤ most → entryOf line ≡ Parsed.Taken (Entry.On on) → Matches most caller run line
@@ -161,7 +131,7 @@ module _ (most : ℕ) (caller : Caller) (run : Run) (f : Follows most caller run
       let same = by-entry clear enough (Entry.On on) read in
       let whole = ap (stateBytes holding) (sym same) in
       record {
-        follows = follows-as (after .0) (next-accepted own (placed holding outcome) clear (ap (parsedTable own line) read) refl) (record {
+        follows = follows-as (after .0) (next-accepted run line own (placed holding outcome) clear (ap (parsedTable own line) read) refl) (record {
           statement = ap statementIn whole ∙ statement-split (placed holding outcome) (outcome .report);
           table = f .table;
           room = enough-room clear enough (Entry.On on) read;
@@ -170,7 +140,7 @@ module _ (most : ℕ) (caller : Caller) (run : Run) (f : Follows most caller run
           kept = subst (λ (o : Outcome). Kept (placed holding o)) (sym same) (act-kept own holding (f .isOwn) (f .kept) on);
           isOwn = f .isOwn;
         });
-        prints = after .1 ∙ ap reportIn whole ∙ report-split (placed holding outcome) (outcome .report) ∙ sym (printed-accepted clear);
+        prints = after .1 ∙ ap reportIn whole ∙ report-split (placed holding outcome) (outcome .report) ∙ sym (printed-accepted run line clear);
       }
 
   line-matches : (callVerdict (caller .statement) (caller .table) line ≡ Verdict.Accepted → needed ≤ most) → Matches most caller run line
@@ -205,8 +175,8 @@ calls-follow most enough (line ∷ lines) caller run f =
     ∙ ap (λ (t : List ℕ). printed run line ++ t) (calls-follow most enough lines (afterCall caller line) (next run line) (m .follows))
     ∙ sym (list-line run line lines)
 
-pub calls-list-within : (most : ℕ) → Enough most → (out : List ℕ) → most ≤ length out → (lines : List (List ℕ)) → callsFrom (begin out) lines ≡ listFrom start lines
+pub calls-list-within : (most : ℕ) → Enough most → (out : List ℕ) → most ≤ length out → (lines : List (List ℕ)) → callsFrom (begin [] out) lines ≡ listFrom start lines
 unfolding begin start tableBytes isTable
 calls-list-within most enough out room lines =
-    calls-follow most enough lines (begin out) start
+    calls-follow most enough lines (begin [] out) start
     (record { statement = refl; table = refl; room = room; accepted = refl; refused = refl; kept = empty-kept; isOwn = refl })

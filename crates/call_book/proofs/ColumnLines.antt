@@ -3,40 +3,11 @@ use Rattle.laws.proofs.{ℕ, _-_, _<_, _≡_, refl, sym, ap, _∙_, Bool, true,
 use Rattle.text.specs.{split}
 use Rattle.refusals.specs.{smallest, Verdict}
 use Rattle.refusals.proofs.Laws.{ruled-out}
-use Rattle.line_entry.specs.{Entry, Rule, openRule, addRule, clearRule, plantRule, fileRule, withdrawRule, Parsed}
-use Rattle.line_column.specs.{columnRule}
+use Rattle.line_entry.specs.{Entry, Parsed}
 use Rattle.line.specs.{bodyOf, letterOf, noRule, ruleOf, lineRule, conditions, entryOf}
+use Rattle.line.proofs.Columns.{taken-by, isColumn, column-rule}
 use Rattle.theorem_keeping.proofs.Tests.{clash}
-use Rattle.call_line.proofs.Ranged.{taken-by}
 use Rattle.call_book.specs.{isColumnLine}
-
-abbrev pub isColumn : Entry → Bool
-isColumn (Entry.Column column) = true
-isColumn (Entry.On on) = false
-
-neither : (t : Bool) (x y : Rule) → isColumn (x .entry) ≡ false → isColumn (y .entry) ≡ false → isColumn (cond t x y .entry) ≡ false
-neither true x y p q = p
-neither false x y p q = q
-
-column-rule : (letter : ℕ) (fs : List (List ℕ)) → isColumn (ruleOf letter fs .entry) ≡ eqb letter 84
-unfolding ruleOf columnRule openRule addRule clearRule plantRule fileRule withdrawRule noRule
-column-rule letter fs = go (eqb letter 84)
-  where
-    others : Rule
-    others =
-        cond (eqb letter 65) (openRule fs)
-        (cond (eqb letter 83) (addRule fs)
-        (cond (eqb letter 67) (clearRule fs)
-        (cond (eqb letter 80) (plantRule fs)
-        (cond (eqb letter 82) (fileRule fs)
-        (cond (eqb letter 87) (withdrawRule fs)
-        noRule)))))
-
-    go : (t : Bool) → isColumn (cond t (columnRule fs) others .entry) ≡ t
-    go true = refl
-    go false =
-        neither (eqb letter 65) _ _ refl (neither (eqb letter 83) _ _ refl (neither (eqb letter 67) _ _ refl
-        (neither (eqb letter 80) _ _ refl (neither (eqb letter 82) _ _ refl (neither (eqb letter 87) _ _ refl refl)))))
 
 -- what has no letter is refused
 no-letter : (body : List ℕ) → letterOf body ≡ 0 → smallest (conditions body) ≡ Verdict.Accepted → ⊥

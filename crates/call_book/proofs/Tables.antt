@@ -1,13 +1,13 @@
 -- The table from call to call: its bytes are read back as its numbers, and a table longer by a column is again a table.
-use Rattle.laws.proofs.{ℕ, _+_, _*_, _/_, _%_, _≤_, _≡_, refl, ap, _∙_, true, List, [], _∷_, arith, eq-eqb, le-ltb, leb, length}
-use Rattle.refusals.specs.{weighed, weighAll, smallest, Refusal, Verdict}
-use Rattle.refusals.proofs.Laws.{clear-before}
+use Rattle.laws.proofs.{ℕ, _+_, _*_, _/_, _%_, _≤_, _≡_, refl, ap, _∙_, true, List, [], _∷_, arith, eq-eqb, le-ltb, length}
+use Rattle.refusals.specs.{weighed, weighAll, smallest, Verdict}
 use Rattle.table.specs.{longestTable, isTable}
 use Rattle.table.proofs.Columns.{table-fits}
 use Rattle.table_bytes.specs.{numbersOf, decodable}
-use Rattle.table_extend.specs.{begun, extensible}
+use Rattle.table_extend.specs.{begun}
 use Rattle.table_extend.proofs.Kept.{extended-table}
-use Rattle.table_grow.specs.{lineCells, longerBy, growable}
+use Rattle.table_grow.specs.{lineColumn, lineCells, longerBy, growable}
+use Rattle.table_grow.proofs.Fits.{grown-extensible}
 use Rattle.call_output.specs.{tableBytes}
 use Rattle.call_output.proofs.TableBytes.{bytes-length}
 use Rattle.call_line.specs.{tableVerdict}
@@ -28,8 +28,6 @@ table-accepted own e =
     let few : length (tableBytes own) / 2 ≤ longestTable = omega (arith, n) in
     simp (eq-eqb (length (tableBytes own) % 2) 0 even, le-ltb longestTable (length (tableBytes own) / 2) few, numbers-back own, e)
 
-pub longer-table : (own : List ℕ) (areas : ℕ) (line : List ℕ) (column : ℕ) → growable own areas line column ≡ Verdict.Accepted → isTable (longerBy own line column) ≡ true
-unfolding growable longerBy
-longer-table own areas line column e =
-    extended-table (begun own) column (lineCells line) longestTable
-    (clear-before (extensible (begun own) column (lineCells line) longestTable) (leb 1 areas) Refusal.TableAfterArea e)
+pub longer-table : (own : List ℕ) (areas : ℕ) (line : List ℕ) → growable own areas line ≡ Verdict.Accepted → isTable (longerBy own line) ≡ true
+unfolding longerBy
+longer-table own areas line e = extended-table (begun own) (lineColumn line) (lineCells line) longestTable (grown-extensible own areas line e .1)

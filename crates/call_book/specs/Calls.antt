@@ -19,18 +19,22 @@ pub record Caller : Type 0 where
   pub accepted : ℕ
   pub refused : ℕ
 
--- no area, and no table
-unfoldable pub begin : List ℕ → Caller
-begin out = record { statement = statementOf emptyHolding; table = []; out = out; accepted = 0; refused = 0 }
+-- no area, and the bytes of a table, of which there are none where there is no table
+unfoldable pub begin : (table out : List ℕ) → Caller
+begin table out = record { statement = statementOf emptyHolding; table = table; out = out; accepted = 0; refused = 0 }
 
 -- a T line, by its first byte
 unfoldable pub isColumnLine : List ℕ → Bool
 isColumnLine line = eqb (getD line 0 0) (code "T")
 
+-- the letters that begin a report
+abbrev pub isReportLetter : ℕ → Bool
+isReportLetter b = eqb b (code "R") || eqb b (code "W")
+
 -- how many bytes stand before the first line that begins with R or W; the test says whether a line begins here
 unfoldable pub beforeReport : Bool → List ℕ → ℕ
 beforeReport begins [] = 0
-beforeReport begins (b ∷ bytes) = cond (begins && (eqb b (code "R") || eqb b (code "W"))) 0 (suc (beforeReport (eqb b lineEnd) bytes))
+beforeReport begins (b ∷ bytes) = cond (begins && isReportLetter b) 0 (suc (beforeReport (eqb b lineEnd) bytes))
 
 -- "The output takes the new statement, then what `book` prints for an accepted R or W": the two parts of the bytes written
 abbrev pub statementIn : List ℕ → List ℕ

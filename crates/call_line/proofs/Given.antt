@@ -1,8 +1,9 @@
 -- What each part of a call answers and leaves, from what the parts below it answered.
-use Rattle.laws.proofs.{ℕ, _-_, _≤_, _<_, _≡_, refl, sym, ap, subst, _∙_, not, List, arith, le-leb, lt-leb, length, take, drop, length-take}
+use Rattle.laws.proofs.{ℕ, _-_, _≤_, _≡_, refl, sym, ap, subst, _∙_, not, List, arith, length, take, drop, length-take}
 use lib.Seq.{take-at}
-use Rattle.refusals.specs.{Refusal, Verdict, numberOf, weighed, weighAll, smallest, Written, written, bufferAfter}
+use Rattle.refusals.specs.{Refusal, Verdict, weighed, weighAll, smallest, smaller, Written, written, bufferAfter}
 use Rattle.refusals.proofs.Laws.{clear-before}
+use Rattle.refusals.proofs.Smaller.{smaller-clear}
 use Rattle.schedules.specs.{schedule6}
 use Rattle.table.specs.{longestTable, isTable, judged}
 use Rattle.table_bytes.specs.{numbersOf, decodable}
@@ -13,30 +14,17 @@ use Rattle.holding.specs.{Area, Holding, Found, findArea}
 use Rattle.holding_look.specs.{Looked, areaAt}
 use Rattle.holding_look.proofs.Laws.{looked-as}
 use Rattle.step_outcome.specs.{Outcome, placed}
-use Rattle.step.specs.{appliedTo, applied}
+use Rattle.step.specs.{acted, applied}
 use Rattle.table_grow.specs.{Grown, longerBy, growable, grownBy}
 use Rattle.table_grow.proofs.Fits.{grown-count, grown-front}
 use Rattle.statement.specs.{Read, readOf}
 use Rattle.book_listing.specs.{entryTaken}
 use Rattle.statement_write.specs.{writable}
 use Rattle.call_output.specs.{tableBytes, reportedBytes}
-use Rattle.call_line.specs.{tableVerdict, smaller, entryBytes, withRoom, callVerdict, callBytes, callWeighed, callOutput, Gives, entryVerdict, columnVerdict, stepOutcome, stepVerdict, stepBytes}
+use Rattle.call_line.specs.{tableVerdict, entryBytes, withRoom, callVerdict, callBytes, callWeighed, callOutput, Gives, entryVerdict, columnVerdict, stepOutcome, stepVerdict, stepBytes}
 use Rattle.call_line.proofs.Sorts.{columnOutcome}
-use Rattle.call_line.proofs.Smaller.{smaller-clear}
 use Rattle.call_line.proofs.Tables.{answered-verdict}
 use Rattle.call_line.proofs.Order.{entry-decides, entry-writes}
-
--- ---- the smaller of two
-
-module _ (a b : Verdict) (first second : Refusal) (p : a ≡ Verdict.Refused first) (q : b ≡ Verdict.Refused second) where
-  pub first-least : numberOf first ≤ numberOf second → Verdict.Refused first ≡ smaller a b
-  first-least h = rw (p, q) (simp (le-leb (numberOf first) (numberOf second) h))
-
-  pub second-least : numberOf second < numberOf first → Verdict.Refused second ≡ smaller a b
-  second-least h = rw (p, q) (simp (lt-leb (numberOf first) (numberOf second) h))
-
-pub only-first : (a b : Verdict) (first : Refusal) → a ≡ Verdict.Refused first → b ≡ Verdict.Accepted → Verdict.Refused first ≡ smaller a b
-only-first a b first p q = rw (p, q)
 
 -- ---- bytes under a verdict
 
@@ -136,33 +124,33 @@ table-read table own n e q =
 
 -- ---- a T entry
 
-module _ (own statement line : List ℕ) (column : ℕ) (read : Read) (grown : Grown) (v : Verdict) (r : read ≡ readOf statement)
-    (g : grown ≡ grownBy own (read .holding .count) line column) (w : v ≡ smaller (read .verdict) (grown .verdict)) where
-  grown-verdict : grown .verdict ≡ growable own (read .holding .count) line column
+module _ (own statement line : List ℕ) (read : Read) (grown : Grown) (v : Verdict) (r : read ≡ readOf statement)
+    (g : grown ≡ grownBy own (read .holding .count) line) (w : v ≡ smaller (read .verdict) (grown .verdict)) where
+  grown-verdict : grown .verdict ≡ growable own (read .holding .count) line
   unfolding grownBy
   grown-verdict = ap (λ (x : Grown). x .verdict) g
 
-  pub column-weighed : v ≡ columnVerdict own statement line column
+  pub column-weighed : v ≡ columnVerdict own statement line
   unfolding columnVerdict
   column-weighed =
       w ∙ ap (smaller (read .verdict)) grown-verdict
-      ∙ ap (λ (x : Read). smaller (x .verdict) (growable own (x .holding .count) line column)) r
+      ∙ ap (λ (x : Read). smaller (x .verdict) (growable own (x .holding .count) line)) r
 
   module _ (clear : v ≡ Verdict.Accepted) where
-    grown-clear : growable own (read .holding .count) line column ≡ Verdict.Accepted
+    grown-clear : growable own (read .holding .count) line ≡ Verdict.Accepted
     grown-clear = sym grown-verdict ∙ smaller-clear (read .verdict) (grown .verdict) (sym w ∙ clear) .1
 
-    pub column-front : take (grown .count - 0) (grown .numbers) ≡ longerBy own line column
+    pub column-front : take (grown .count - 0) (grown .numbers) ≡ longerBy own line
     column-front =
         let all : grown .count - 0 ≡ grown .count = omega arith in
-        ap (λ (n : ℕ). take n (grown .numbers)) all ∙ grown-front own (read .holding .count) line column grown-clear grown g
+        ap (λ (n : ℕ). take n (grown .numbers)) all ∙ grown-front own (read .holding .count) line grown-clear grown g
 
     -- the table stands in front of the numbers, so there are as many
     pub column-fits : grown .count ≤ length (grown .numbers)
     column-fits =
         omega (
           arith,
-          grown-count own (read .holding .count) line column grown-clear grown g,
+          grown-count own (read .holding .count) line grown-clear grown g,
           ap length column-front,
           length-take (grown .count - 0) (grown .numbers),
         )
@@ -171,11 +159,11 @@ module _ (own statement line : List ℕ) (column : ℕ) (read : Read) (grown : G
 
 -- a step on the area that was looked up is a step of the holding
 pub step-looked : (own default : List ℕ) (holding : Holding) (on : AreaAct) (found : Found) (area : Area) (outcome : Outcome)
-    → outcome ≡ appliedTo own default (record { count = holding .count; found = found; area = area }) on
+    → outcome ≡ acted own default (record { number = on .area; count = holding .count; found = found; area = area }) (on .act)
     → found ≡ findArea holding (on .area) → area ≡ areaAt holding found → outcome ≡ applied own default holding on
 unfolding applied
 step-looked own default holding on found area outcome o f a =
-    o ∙ ap (λ (x : Looked). appliedTo own default x on) (looked-as holding found _ area f a)
+    o ∙ ap (λ (x : Looked). acted own default x (on .act)) (looked-as holding (on .area) found _ area f a)
 
 module _ (own statement default : List ℕ) (on : AreaAct) (read : Read) (outcome : Outcome) (v : Verdict) (r : read ≡ readOf statement)
     (d : default ≡ schedule6) (o : outcome ≡ applied own default (read .holding) on) (w : v ≡ smaller (read .verdict) (outcome .verdict)) where
@@ -202,14 +190,14 @@ module _ (own statement line : List ℕ) where
   abbrev carried-holding : Holding
   carried-holding = readOf statement .holding
 
-  pub column-verdict : (entry : Entry) (column : ℕ) → entry ≡ Entry.Column column → columnVerdict own statement line column ≡ entryVerdict own statement line entry
+  pub column-verdict : (entry : Entry) (column : ℕ) → entry ≡ Entry.Column column → columnVerdict own statement line ≡ entryVerdict own statement line entry
   unfolding columnVerdict entryVerdict entryTaken
   column-verdict entry column c =
       ap (smaller (readOf statement .verdict))
-      (sym (answered-verdict (growable own (carried-holding .count) line column) (columnOutcome carried-holding) refl))
+      (sym (answered-verdict (growable own (carried-holding .count) line) (columnOutcome carried-holding) refl))
       ∙ ap (entryVerdict own statement line) (sym c)
 
-  pub column-bytes : (entry : Entry) (column : ℕ) → entry ≡ Entry.Column column → tableBytes (longerBy own line column) ≡ entryBytes own carried-holding line entry
+  pub column-bytes : (entry : Entry) (column : ℕ) → entry ≡ Entry.Column column → tableBytes (longerBy own line) ≡ entryBytes own carried-holding line entry
   unfolding entryBytes
   column-bytes entry column c = ap (entryBytes own carried-holding line) (sym c)
 

@@ -2,7 +2,7 @@
 -- holding and table, by no number below 6. So a refused line decides, then a refused table, and only the statement and the state are weighed together.
 use Rattle.laws.proofs.{ℕ, _/_, _%_, _≤_, _≡_, refl, Bool, true, false, not, cond, List, arith, eqb, leb, ltb, lit≤, length}
 use Rattle.text.specs.{split}
-use Rattle.refusals.specs.{Refusal, Verdict, numberOf, weighed, weighAll, smallest}
+use Rattle.refusals.specs.{smaller, Refusal, Verdict, numberOf, weighed, weighAll, smallest}
 use Rattle.table.specs.{longestTable, isTable}
 use Rattle.table_bytes.specs.{numbersOf, decodable}
 use Rattle.line_entry.specs.{Act, Entry, Rule, parsed, areaAndYear, openRule, addRule, clearRule, plantRule, fileRule, withdrawRule, Parsed}
@@ -22,11 +22,12 @@ use Rattle.step_withdraw.specs.{withdrawCases, withdrawn}
 use Rattle.step.specs.{acted, applied}
 use Rattle.table_extend.specs.{begun, extensible}
 use Rattle.table_grow.specs.{lineCells, growable}
+use Rattle.table_grow.proofs.Growth.{column-grows}
 use Rattle.statement.specs.{acceptable, readIf, readOf}
 use Rattle.statement_parse.specs.{holdingAt}
 use Rattle.book_listing.specs.{entryTaken, parsedTaken, lineTaken}
-use Rattle.call_line.specs.{tableVerdict, smaller, callVerdict, entryBytes, callBytes}
-use Rattle.call_line.proofs.Smaller.{From, from-less, smaller-first, smaller-from}
+use Rattle.call_line.specs.{tableVerdict, callVerdict, entryBytes, callBytes}
+use Rattle.refusals.proofs.Smaller.{From, from-less, smaller-first, smaller-from}
 use Rattle.call_line.proofs.Sorts.{columnOutcome}
 use Rattle.call_line.proofs.Ranged.{Ranged, EntryRanged, entry-ranged}
 use Rattle.call_line.proofs.Tables.{startsAt, starts-from, weighed-from, answered-from, answered-verdict, endsAt, ends-by}
@@ -86,13 +87,14 @@ read-from-six statement =
 
 -- ---- the state: an entry that was read
 
-growable-from-six : (own : List ℕ) (areas : ℕ) (line : List ℕ) (column : ℕ) → From 6 (growable own areas line column)
-unfolding growable extensible startsAt
-growable-from-six own areas line column =
-    weighed-from 6 (extensible (begun own) column (lineCells line) longestTable) (leb 1 areas) Refusal.TableAfterArea (starts-from 6 _ refl) (lit≤ tt)
+growable-from-six : (own : List ℕ) (areas : ℕ) (line : List ℕ) (column : ℕ) → entryOf line ≡ Parsed.Taken (Entry.Column column) → From 6 (growable own areas line)
+unfolding extensible startsAt
+growable-from-six own areas line column read =
+    rw (column-grows own areas line column read .0)
+    (weighed-from 6 (extensible (begun own) column (lineCells line) longestTable) (leb 1 areas) Refusal.TableAfterArea (starts-from 6 _ refl) (lit≤ tt))
 
 module _ (own : List ℕ) (holding : Holding) (line : List ℕ) where
-  act-from-six : (area : ℕ) (act : Act) → isArea area ≡ true → Ranged act → From 6 (acted own schedule6 (lookedUp holding area) area act .verdict)
+  act-from-six : (area : ℕ) (act : Act) → isArea area ≡ true → Ranged act → From 6 (acted own schedule6 (lookedUp holding area) act .verdict)
   unfolding opened openCases added addCases cleared clearCases planted plantCases filed fileCases withdrawn withdrawCases areaCases startsAt
   act-from-six area (Act.Open opening) a r = answered-from 6 _ _ refl (rw (a, r))
   act-from-six area (Act.Add sub land forest year) a r = answered-from 6 _ _ refl (rw (a, r .0, r .1, r .2))
@@ -101,11 +103,11 @@ module _ (own : List ℕ) (holding : Holding) (line : List ℕ) where
   act-from-six area (Act.File last) a r = answered-from 6 _ _ refl (rw (a, r))
   act-from-six area Act.Withdraw a r = answered-from 6 _ _ refl (rw a)
 
-  entry-from-six : (entry : Entry) → EntryRanged entry → From 6 (entryTaken own holding line entry .verdict)
+  entry-from-six : (entry : Entry) → entryOf line ≡ Parsed.Taken entry → EntryRanged entry → From 6 (entryTaken own holding line entry .verdict)
   unfolding entryTaken applied
-  entry-from-six (Entry.On on) r = act-from-six (on .area) (on .act) (r .0) (r .1)
-  entry-from-six (Entry.Column column) r =
-      rw (answered-verdict (growable own (holding .count) line column) (columnOutcome holding) refl) (growable-from-six own (holding .count) line column)
+  entry-from-six (Entry.On on) read r = act-from-six (on .area) (on .act) (r .0) (r .1)
+  entry-from-six (Entry.Column column) read r =
+      rw (answered-verdict (growable own (holding .count) line) (columnOutcome holding) refl) (growable-from-six own (holding .count) line column read)
 
 -- ---- the call
 
@@ -137,7 +139,7 @@ module _ (statement table line : List ℕ) where
         rw (read, e, six)
         (smaller-first Refusal.TableColumn (smaller (readOf statement .verdict) state)
         (smaller-from 6 (readOf statement .verdict) state (read-from-six statement)
-        (entry-from-six (numbersOf table) holding line entry (entry-ranged line entry read))))
+        (entry-from-six (numbersOf table) holding line entry read (entry-ranged line entry read))))
 
     pub entry-decides : tableVerdict table ≡ Verdict.Accepted
         → callVerdict statement table line ≡ smaller (readOf statement .verdict) (entryTaken (numbersOf table) (readOf statement .holding) line entry .verdict)

@@ -2,17 +2,18 @@
 use Rattle.laws.proofs.{ℕ, suc, _+_, _/_, _≤_, _≡_, refl, subst, Bool, true, false, cond, _&&_, List, arith, le-leb, ltb-false, eq-eqb, eqb, leb, ltb}
 use Rattle.laws.proofs.Elements.{or-false-left, or-false-right}
 use Rattle.text.specs.{split}
-use Rattle.refusals.specs.{Verdict, smallest}
+use Rattle.refusals.specs.{smallest}
 use Rattle.refusals.proofs.Laws.{RuledOut, ruled-out}
 use Rattle.units.specs.{tenthsOf}
 use Rattle.forest.specs.{Named, Forest}
 use Rattle.text_number.specs.{Number}
 use Rattle.text_value.specs.{outside, valueOf}
 use Rattle.ranges.specs.{isBare, isArea, isSub, isYear, isLand, isPlanted}
-use Rattle.line_entry.specs.{Act, Entry, numberAt, hectaresAt, typeAt, badArea, badSub, badYear, Rule, parsed, areaAndYear, openRule, addRule, clearRule, plantRule, fileRule, withdrawRule, Parsed}
+use Rattle.line_entry.specs.{Act, Entry, numberAt, hectaresAt, typeAt, badArea, badSub, badYear, Rule, areaAndYear, openRule, addRule, clearRule, plantRule, fileRule, withdrawRule, Parsed}
 use Rattle.line_type.specs.{unlisted, unplantable, misdated, forestOf}
 use Rattle.line_column.specs.{columnRule}
 use Rattle.line.specs.{bodyOf, letterOf, noRule, ruleOf, lineRule, conditions, entryOf}
+use Rattle.line.proofs.Columns.{taken-by}
 
 -- an act whose fields are within their ranges, and an entry whose area is too
 abbrev pub Ranged : Act → Type 0
@@ -129,12 +130,6 @@ module _ (fs : List (List ℕ)) where
       either (eqb letter 84) _ _ column-sound (either (eqb letter 65) _ _ open-sound (either (eqb letter 83) _ _ add-sound
       (either (eqb letter 67) _ _ clear-sound (either (eqb letter 80) _ _ plant-sound (either (eqb letter 82) _ _ file-sound
       (either (eqb letter 87) _ _ withdraw-sound none-sound))))))
-
--- an entry is taken where no case applies, and is its rule's
-pub taken-by : (v : Verdict) (x entry : Entry) → parsed v x ≡ Parsed.Taken entry → (v ≡ Verdict.Accepted) × (x ≡ entry)
-unfolding parsed
-taken-by Verdict.Accepted x entry e = (refl, cc)
-taken-by (Verdict.Refused r) x entry e = absurd (let z : _≡_ {A = ℕ} 0 1 = cc in omega arith)
 
 pub entry-ranged : (line : List ℕ) (entry : Entry) → entryOf line ≡ Parsed.Taken entry → EntryRanged entry
 unfolding entryOf conditions lineRule

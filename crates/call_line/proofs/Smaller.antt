@@ -1,66 +1,13 @@
--- Of two verdicts the smaller: it is one of the two, no refusal among them has a smaller number, and it is clear just when both are. So the verdict
--- of a call is the smallest of the numbers of its four parts.
-use Rattle.laws.proofs.{ℕ, _≤_, _≡_, refl, sym, subst, _∙_, Bool, true, false, cond, List, _⊎_, inl, inr, ⊎-elim, arith, leb-true, leb-false, le-leb, leb}
+-- The verdict of a call is the smallest of the numbers of its four parts: the smaller of two is one of them, none has a smaller number, and it is
+-- clear just when both are.
+use Rattle.laws.proofs.{ℕ, _≡_, sym, subst, List, _⊎_, arith}
 use Rattle.refusals.specs.{Refusal, Verdict, numberOf}
+use Rattle.refusals.proofs.Smaller.{From, from-both, among, smaller-clear}
 use Rattle.table_bytes.specs.{numbersOf}
 use Rattle.line.specs.{entryOf}
 use Rattle.statement.specs.{readOf}
 use Rattle.book_listing.specs.{lineTaken}
-use Rattle.call_line.specs.{lineVerdict, tableVerdict, smaller, callVerdict}
-
--- a verdict that is clear, or has no number below n
-abbrev pub From : ℕ → Verdict → Type 0
-From n Verdict.Accepted = Unit
-From n (Verdict.Refused r) = n ≤ numberOf r
-
-pub from-less : (m n : ℕ) (v : Verdict) → m ≤ n → From n v → From m v
-from-less m n Verdict.Accepted h f = tt
-from-less m n (Verdict.Refused r) h f = let g : n ≤ numberOf r = f in omega arith
-
-from-both : (n : ℕ) (a b : Verdict) → From n (smaller a b) → From n a × From n b
-from-both n Verdict.Accepted b f = (tt, f)
-from-both n (Verdict.Refused r) Verdict.Accepted f = (f, tt)
-from-both n (Verdict.Refused r) (Verdict.Refused s) f = go (leb (numberOf r) (numberOf s)) refl f
-  where
-    go : (t : Bool) → leb (numberOf r) (numberOf s) ≡ t → From n (cond t (Verdict.Refused r) (Verdict.Refused s)) → (n ≤ numberOf r) × (n ≤ numberOf s)
-    go true h f = let g : n ≤ numberOf r = f in (g, omega (arith, leb-true (numberOf r) (numberOf s) h))
-    go false h f = let g : n ≤ numberOf s = f in (omega (arith, leb-false (numberOf r) (numberOf s) h), g)
-
-one-of : (a b : Verdict) → (smaller a b ≡ a) ⊎ (smaller a b ≡ b)
-one-of Verdict.Accepted b = inr refl
-one-of (Verdict.Refused r) Verdict.Accepted = inl refl
-one-of (Verdict.Refused r) (Verdict.Refused s) = go (leb (numberOf r) (numberOf s))
-  where
-    go : (t : Bool) → (cond t (Verdict.Refused r) (Verdict.Refused s) ≡ Verdict.Refused r) ⊎ (cond t (Verdict.Refused r) (Verdict.Refused s) ≡ Verdict.Refused s)
-    go true = inl refl
-    go false = inr refl
-
-among : (a b v : Verdict) (P : Type 0) → (b ≡ v → P) → smaller a b ≡ v → (a ≡ v) ⊎ P
-among a b v P f e =
-    ⊎-elim (λ (p : smaller a b ≡ a). inl (sym p ∙ e)) (λ (p : smaller a b ≡ b). inr (f (sym p ∙ e))) (one-of a b)
-
-pub smaller-clear : (a b : Verdict) → smaller a b ≡ Verdict.Accepted → (a ≡ Verdict.Accepted) × (b ≡ Verdict.Accepted)
-smaller-clear Verdict.Accepted b e = (refl, e)
-smaller-clear (Verdict.Refused r) Verdict.Accepted e = (e, refl)
-smaller-clear (Verdict.Refused r) (Verdict.Refused s) e = go (leb (numberOf r) (numberOf s)) e
-  where
-    go : (t : Bool) → cond t (Verdict.Refused r) (Verdict.Refused s) ≡ Verdict.Accepted → (Verdict.Refused r ≡ Verdict.Accepted) × (Verdict.Refused s ≡ Verdict.Accepted)
-    go true e = let z : _≡_ {A = ℕ} 0 1 = cc in absurd (omega arith)
-    go false e = let z : _≡_ {A = ℕ} 0 1 = cc in absurd (omega arith)
-
--- a refusal whose number none of the others goes below
-pub smaller-first : (r : Refusal) (v : Verdict) → From (numberOf r) v → smaller (Verdict.Refused r) v ≡ Verdict.Refused r
-smaller-first r Verdict.Accepted f = refl
-smaller-first r (Verdict.Refused s) f = simp (le-leb (numberOf r) (numberOf s) f)
-
-pub smaller-from : (n : ℕ) (a b : Verdict) → From n a → From n b → From n (smaller a b)
-smaller-from n Verdict.Accepted b f g = g
-smaller-from n (Verdict.Refused r) Verdict.Accepted f g = f
-smaller-from n (Verdict.Refused r) (Verdict.Refused s) f g = go (leb (numberOf r) (numberOf s))
-  where
-    go : (t : Bool) → From n (cond t (Verdict.Refused r) (Verdict.Refused s))
-    go true = f
-    go false = g
+use Rattle.call_line.specs.{lineVerdict, tableVerdict, callVerdict}
 
 module _ (statement table line : List ℕ) where
   abbrev line-part : Verdict

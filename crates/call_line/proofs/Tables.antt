@@ -5,7 +5,7 @@ use Rattle.laws.proofs.Lists.{and-left, and-right}
 use Rattle.refusals.specs.{Refusal, Verdict, numberOf, Case, weighed, weighAll, smallest}
 use Rattle.refusals.proofs.Smallest.{turned-stands}
 use Rattle.step_outcome.specs.{Outcome, answered}
-use Rattle.call_line.proofs.Smaller.{From}
+use Rattle.refusals.proofs.Smaller.{From}
 
 unfoldable pub startsAt : ℕ → List Case → Bool
 startsAt n [] = true

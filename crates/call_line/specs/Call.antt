@@ -1,6 +1,6 @@
 -- "The field unit's own program, written in C, calls the engine with a statement, a table, a line and an output buffer."
-use Rattle.laws.specs.{ℕ, cond, not, List, [], ltb, leb, length, ℤ, pos, negℤ}
-use Rattle.refusals.specs.{Verdict, numberOf, weighed, bufferAfter, Refusal}
+use Rattle.laws.specs.{ℕ, not, List, [], ltb, length, ℤ, pos, negℤ}
+use Rattle.refusals.specs.{Verdict, numberOf, weighed, smaller, bufferAfter, Refusal}
 use Rattle.table.specs.{isTable, longestTable}
 use Rattle.table_bytes.specs.{numbersOf, decodable}
 use Rattle.line_entry.specs.{Entry, Parsed}
@@ -23,12 +23,6 @@ lineVerdict (Parsed.Refused refusal) = Verdict.Refused refusal
 unfoldable pub tableVerdict : List ℕ → Verdict
 tableVerdict table = weighed (decodable table longestTable) (not (isTable (numbersOf table))) Refusal.TableColumn
 
--- of two verdicts the refusal with the smaller number
-abbrev pub smaller : Verdict → Verdict → Verdict
-smaller Verdict.Accepted other = other
-smaller (Verdict.Refused r) Verdict.Accepted = Verdict.Refused r
-smaller (Verdict.Refused r) (Verdict.Refused s) = cond (leb (numberOf r) (numberOf s)) (Verdict.Refused r) (Verdict.Refused s)
-
 -- "The smallest number that applies is given, otherwise none": of the line, the table, the statement and the state
 unfoldable pub callVerdict : List ℕ → List ℕ → List ℕ → Verdict
 callVerdict statement table line =
@@ -44,7 +38,7 @@ stateBytes holding outcome = reportedBytes (placed holding outcome) (outcome .re
 
 -- "for T it takes the longer table instead"
 unfoldable pub entryBytes : List ℕ → Holding → List ℕ → Entry → List ℕ
-entryBytes own holding line (Entry.Column column) = tableBytes (longerBy own line column)
+entryBytes own holding line (Entry.Column column) = tableBytes (longerBy own line)
 entryBytes own holding line (Entry.On on) = stateBytes holding (applied own schedule6 holding on)
 
 abbrev pub parsedBytes : List ℕ → Holding → List ℕ → Parsed → List ℕ

@@ -1,6 +1,6 @@
 pub mod Call
 pub mod Parts
-pub use Call.{lineVerdict, smaller, stateBytes, parsedBytes, answerOf}
+pub use Call.{lineVerdict, stateBytes, parsedBytes, answerOf}
 unfoldable pub use Call.{tableVerdict, callVerdict, entryBytes, callBytes, withRoom, callWeighed, callAnswer, callOutput}
 pub use Parts.{Gives, refusedBy}
 unfoldable pub use Parts.{entryVerdict, columnVerdict, stepOutcome, stepVerdict, stepBytes}

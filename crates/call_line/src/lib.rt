@@ -7,7 +7,7 @@ ghost use Rattle.table_bytes.specs.{numbersOf, decodable};
 ghost use Rattle.table_grow.specs.{longerBy};
 ghost use Rattle.statement.specs.{readOf};
 ghost use Rattle.call_output.specs.{tableBytes};
-ghost use Rattle.call_line.specs.{tableVerdict, smaller, entryBytes, callBytes, callWeighed, callOutput, Gives, refusedBy, entryVerdict, columnVerdict, stepVerdict, stepBytes};
+ghost use Rattle.call_line.specs.{tableVerdict, entryBytes, callBytes, callWeighed, callOutput, Gives, refusedBy, entryVerdict, columnVerdict, stepVerdict, stepBytes};
 use holding::Found;
 use holding::MOST_AREAS;
 use holding_look::Looked;
@@ -17,24 +17,6 @@ use line_entry::Parsed;
 use refusals::Verdict;
 use refusals::Written;
 use table::LONGEST_TABLE;
-
-// Of two verdicts the refusal with the smaller number.
-fn least(a: Verdict, b: Verdict) -> Verdict
-    ensures { λ r. ⌜ r ≡ smaller a b ⌝ }
-{
-    match a {
-        Verdict::Accepted => b,
-        Verdict::Refused(first) => match b {
-            Verdict::Accepted => a,
-            Verdict::Refused(second) => {
-                if refusals::number(first) <= refusals::number(second) {
-                    return a;
-                }
-                b
-            }
-        },
-    }
-}
 
 // The refusal of a line that was not read as an entry.
 fn refused_by(parsed: Parsed) -> Written
@@ -65,16 +47,16 @@ fn read_table(table: &[u8], numbers: &mut [u16]) -> Written
     }
 }
 
-// A T entry: the table longer by its column.
-fn take_column(statement: &[u8], own: &[u16], line: &[u8], column: usize, out: &mut [u8]) -> Written
-    ensures { λ r. ⌜ Gives (columnVerdict (now (own .entry)) (now (statement .entry)) (now (line .entry)) column) (tableBytes (longerBy (now (own .entry)) (now (line .entry)) column)) (now (out .entry)) r (now (out .exit)) ⌝ }
+// A T line: the table longer by its column.
+fn take_column(statement: &[u8], own: &[u16], line: &[u8], out: &mut [u8]) -> Written
+    ensures { λ r. ⌜ Gives (columnVerdict (now (own .entry)) (now (statement .entry)) (now (line .entry))) (tableBytes (longerBy (now (own .entry)) (now (line .entry)))) (now (out .entry)) r (now (out .exit)) ⌝ }
 {
     let read = statement::read_from(statement);
     let read_verdict = read.verdict;
     let holding = read.holding;
-    let grown = table_grow::grow(own, holding.count, line, column);
+    let grown = table_grow::grow(own, holding.count, line);
     let grown_verdict = grown.verdict;
-    let v = least(read_verdict, grown_verdict);
+    let v = refusals::least(read_verdict, grown_verdict);
     match v {
         Verdict::Refused(refusal) => Written::Refused(refusal),
         Verdict::Accepted => {
@@ -101,13 +83,15 @@ fn take_step(statement: &[u8], own: &[u16], on: AreaAct, out: &mut [u8]) -> Writ
         }
     }
     let looked = Looked {
+        number: on.area,
         count: holding.count,
         found,
         area: named,
     };
-    let outcome = step::apply_to(own, &default, looked, on);
+    let act = on.act;
+    let outcome = step::apply_to(own, &default, looked, act);
     let step_verdict = outcome.verdict;
-    let v = least(read_verdict, step_verdict);
+    let v = refusals::least(read_verdict, step_verdict);
     match v {
         Verdict::Refused(refusal) => Written::Refused(refusal),
         Verdict::Accepted => {
@@ -129,7 +113,7 @@ fn take_entry(statement: &[u8], own: &[u16], line: &[u8], entry: Entry, out: &mu
     ensures { λ r. ⌜ Gives (entryVerdict (now (own .entry)) (now (statement .entry)) (now (line .entry)) entry) (entryBytes (now (own .entry)) (readOf (now (statement .entry)) .holding) (now (line .entry)) entry) (now (out .entry)) r (now (out .exit)) ⌝ }
 {
     match entry {
-        Entry::Column { column } => take_column(statement, own, line, column, out),
+        Entry::Column { column: _ } => take_column(statement, own, line, out),
         Entry::On(on) => take_step(statement, own, on, out),
     }
 }

@@ -9,6 +9,7 @@ use schedules::Kind;
 use units::Change;
 use units::Kilograms;
 use units::Rate;
+use units::Tenths;
 
 // The table of document 01's printed case: Douglas fir alone, stock and residue.
 const PRINTED: [u16; 20] = [
@@ -134,15 +135,22 @@ fn residue(rate: u16, years: u16) {
     say(b" kg\n");
 }
 
-fn change(opening: u64, closing: u64) {
-    say_number(b"From ", opening);
-    say_number(b" kg to ", closing);
-    let change = Kilograms(opening).change_to(Kilograms(closing));
+fn change(opening: Kilograms, closing: Kilograms) {
+    say_number(b"From ", opening.0);
+    say_number(b" kg to ", closing.0);
+    let change = opening.change_to(closing);
     match change {
         Change::Gain(tonnes) => say_number(b" kg: ", tonnes),
         Change::Loss(tonnes) => say_number(b" kg: -", tonnes),
     }
     say(b" t\n");
+}
+
+// Land that was felled four years ago and planted with hardwoods: its residue and its trees.
+fn felled(land: Tenths) -> Kilograms {
+    let residue = land.residue(Rate(2270), rates::share(4));
+    let trees = land.trees(Rate(340));
+    residue.plus(trees)
 }
 
 // The stocks and changes of the guide's section 6.2.
@@ -151,9 +159,14 @@ fn stocks_and_changes() {
     trees(2490);
     trees(340);
     residue(2270, 4);
-    change(11404200, 19923000);
-    change(19923000, 7795160);
-    change(19923000, 18950200);
+    let stand = units::rounded(STAND);
+    let opening = stand.trees(Rate(2490));
+    let grown = stand.trees(Rate(4350));
+    change(opening, grown);
+    change(grown, felled(stand));
+    let left = units::rounded(248300).trees(Rate(6200));
+    let partly = left.plus(felled(units::rounded(210000)));
+    change(grown, partly);
 }
 
 pub(crate) fn print_all() {

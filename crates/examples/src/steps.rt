@@ -1,10 +1,12 @@
-// Document 01's examples of steps: the ages of a stand, and an area whose stock falls before it grows.
+// Document 01's examples of steps: the smallest number, the ages of a stand, and an area whose stock falls before it grows.
 use crate::print::say;
 use crate::print::say_number;
+use crate::print::say_refused;
 use forest::Forest;
 use holding::Holding;
 use line_entry::Act;
 use line_entry::AreaAct;
+use refusals::Verdict;
 use step_outcome::Filed;
 use step_outcome::Outcome;
 use step_outcome::Report;
@@ -16,8 +18,7 @@ const FALLING: [u16; 13] = [0, 0, 0, 3, 0, 0, 0, 0, 0, 0, 1000, 700, 1200];
 
 // An act on area 1.
 fn apply(own: &[u16], holding: Holding, act: Act) -> Outcome {
-    let default = schedules::schedule_six();
-    step::apply(own, &default, holding, AreaAct { area: 1, act })
+    step::enter(own, holding, AreaAct { area: 1, act })
 }
 
 fn after(own: &[u16], holding: Holding, act: Act) -> Holding {
@@ -97,7 +98,56 @@ fn rising_return() {
     say_return(apply(&own, filed, Act::File { last: 2011 }));
 }
 
+// Whether a step is taken, under words for it.
+fn say_taken(words: &[u8], own: &[u16], holding: Holding, on: AreaAct) {
+    say(words);
+    let outcome = step::enter(own, holding, on);
+    let verdict = outcome.verdict;
+    match verdict {
+        Verdict::Accepted => say(b": taken"),
+        Verdict::Refused(refusal) => say_refused(refusal),
+    }
+    say(b"\n");
+}
+
+fn opening(area: u16, year: u16) -> AreaAct {
+    AreaAct {
+        area,
+        act: Act::Open { opening: year },
+    }
+}
+
+// "The smallest number that applies": 2 to 5 of an entry made by hand, 6 of a list that is no table, 11 of an area that no statement carries.
+fn no_table() {
+    let no_table = [5u16];
+    let none = [0u16; 10];
+    let empty = holding::empty_holding();
+    say(b"\nSteps under the list 5, which is no table:\n");
+    say_taken(
+        b"Area 1000 opens in 2010",
+        &no_table,
+        empty,
+        opening(1000, 2010),
+    );
+    say_taken(b"Area 1 opens in 2007", &no_table, empty, opening(1, 2007));
+    say_taken(b"Area 1 opens in 2010", &no_table, empty, opening(1, 2010));
+    let mut damaged = after(&none, empty, Act::Open { opening: 2010 });
+    damaged.areas[0].received = 1;
+    let withdrawal = AreaAct {
+        area: 1,
+        act: Act::Withdraw,
+    };
+    say_taken(
+        b"Area 1 withdraws, with a unit of no return",
+        &no_table,
+        damaged,
+        withdrawal,
+    );
+    say_taken(b"The same under a table", &none, damaged, withdrawal);
+}
+
 pub(crate) fn print_all() {
+    no_table();
     ages();
     falling_return();
     rising_return();

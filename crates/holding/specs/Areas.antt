@@ -1,6 +1,6 @@
 -- "A holding has up to 16 accounting areas ever (records are kept), each with up to 16 sub-areas."
 use Rattle.laws.specs.{ℕ, Bool, true, false, cond, _&&_, List, [], _∷_, eqb, take, replicate, _+_}
-use Rattle.units.specs.{Kilograms}
+use Rattle.units.specs.{Kilograms, noKilograms}
 use Rattle.forest.specs.{Forest}
 use Rattle.ranges.specs.{isBare}
 use Rattle.holding.specs.declared.Residue.{Residue}
@@ -51,7 +51,7 @@ openedArea number opening = record {
   latest = 0;
   withdrawn = false;
   returns = 0;
-  stock = record { 0 = 0 };
+  stock = noKilograms;
   received = 0;
   surrendered = 0;
   count = 0;

@@ -79,7 +79,7 @@ pub fn empty_area() -> Area
         latest: 0,
         withdrawn: false,
         returns: 0,
-        stock: Kilograms(0),
+        stock: Kilograms::none(),
         received: 0,
         surrendered: 0,
         count: 0,

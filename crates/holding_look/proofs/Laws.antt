@@ -1,5 +1,5 @@
 -- What a search found, taken from the array, or put back into it.
-use Rattle.laws.proofs.{ℕ, _<_, _≤_, _≡_, sym, ap, _∙_, List, length, getD, set, set-out}
+use Rattle.laws.proofs.{ℕ, _<_, _≤_, max, _≡_, sym, ap, _∙_, List, length, getD, set, set-out}
 use lib.ListN.{List·getD-eq-default}
 use Rattle.laws.proofs.Standing.{getD-same}
 use Rattle.holding.specs.{Sub, Area, Holding, Found, emptySub, emptyArea}
@@ -19,11 +19,11 @@ module _ (holding : Holding) (found : Found) where
   area-nowhere e = simp e
 
 -- an area taken out of a holding, and the place where it was found
-pub looked-as : (holding : Holding) (found place : Found) (area : Area) → found ≡ place → area ≡ areaAt holding found
-    → record { count = holding .count; found = found; area = area } ≡ lookedAt holding place
-looked-as holding found place area f a =
-    let with : Area → Looked = λ x. record { count = holding .count; found = found; area = x } in
-    ap with a ∙ ap (lookedAt holding) f
+pub looked-as : (holding : Holding) (number : ℕ) (found place : Found) (area : Area) → found ≡ place → area ≡ areaAt holding found
+    → record { number = number; count = holding .count; found = found; area = area } ≡ lookedAt holding number place
+looked-as holding number found place area f a =
+    let with : Area → Looked = λ x. record { number = number; count = holding .count; found = found; area = x } in
+    ap with a ∙ ap (lookedAt holding number) f
 
 module _ (area : Area) (found : Found) where
   pub sub-here : (i : ℕ) (d : Sub) → found ≡ Found.At i → i < length (area .subs) → getD (area .subs) i d ≡ subAt area found
@@ -54,15 +54,15 @@ after area year subs = record {
   subs = subs;
 }
 
-module _ (area : Area) (found : Found) (sub : Sub) (year : ℕ) where
-  pub put-here : (i : ℕ) → found ≡ Found.At i → after area year (set (area .subs) i sub) ≡ withSub area found sub year
+module _ (area : Area) (found : Found) (sub : Sub) (year latest : ℕ) (l : latest ≡ max (area .latest) year) where
+  pub put-here : (i : ℕ) → found ≡ Found.At i → after area latest (set (area .subs) i sub) ≡ withSub area found sub year
   unfolding withSub
-  put-here i e = simp e
+  put-here i e = rw (l, e)
 
-  pub put-out : (i : ℕ) → found ≡ Found.At i → length (area .subs) ≤ i → after area year (area .subs) ≡ withSub area found sub year
+  pub put-out : (i : ℕ) → found ≡ Found.At i → length (area .subs) ≤ i → after area latest (area .subs) ≡ withSub area found sub year
   unfolding withSub
-  put-out i e h = rw e (ap (after area year) (sym (set-out (area .subs) i sub h)))
+  put-out i e h = rw (l, e) (ap (after area (max (area .latest) year)) (sym (set-out (area .subs) i sub h)))
 
-  pub put-nowhere : found ≡ Found.Nowhere → after area year (area .subs) ≡ withSub area found sub year
+  pub put-nowhere : found ≡ Found.Nowhere → after area latest (area .subs) ≡ withSub area found sub year
   unfolding withSub
-  put-nowhere e = simp e
+  put-nowhere e = rw (l, e)

@@ -3,6 +3,7 @@ ghost use mathlib.Core.Path.{_≡_};
 ghost use Prim.Native.Nat.{_<_};
 ghost use Rattle.holding.specs.{mostAreas};
 ghost use Rattle.holding_look.specs.{known, areaAt, lookedUp, subAt, withSub};
+ghost use Prim.Native.Nat.{max};
 use holding::Area;
 use holding::Found;
 use holding::Holding;
@@ -42,8 +43,9 @@ fn area_at(holding: Holding, found: Found) -> Area
     }
 }
 
-// An area looked up: how many areas stand, where it was found, and the area, the empty one where there is none.
+// An area looked up: the number looked for, how many areas stand, where it was found, and the area, the empty one where there is none.
 pub struct Looked {
+    pub number: u16,
     pub count: usize,
     pub found: Found,
     pub area: Area,
@@ -55,6 +57,7 @@ pub fn look_up(holding: Holding, number: u16) -> Looked
     let found = holding::find_area(holding, number);
     let area = area_at(holding, found);
     Looked {
+        number,
         count: holding.count,
         found,
         area,
@@ -75,12 +78,21 @@ pub fn sub_at(area: Area, found: Found) -> Sub
     }
 }
 
-// The area with a sub-area put back at its place, after a clearing or planting in a year.
+fn later(year: u16, other: u16) -> u16
+    ensures { λ r. ⌜ r ≡ max year other ⌝ }
+{
+    if year < other {
+        return other;
+    }
+    year
+}
+
+// The area with a sub-area put back at its place, after a clearing or planting in a year: the latest year is the greatest.
 pub fn with_sub(area: Area, found: Found, sub: Sub, year: u16) -> Area
     ensures { λ r. ⌜ r ≡ withSub area found sub year ⌝ }
 {
     let mut after = area;
-    after.latest = year;
+    after.latest = later(area.latest, year);
     match found {
         Found::At(i) => {
             if i < MOST_SUBS {

@@ -8,7 +8,7 @@ use Rattle.schedules.specs.{joined, placesFrom, stock4, schedule4, placeFour}
 use Rattle.rates.specs.{cellAt, rateFour}
 use Rattle.land_clearings.specs.{elder, countingOf}
 use Rattle.land_parcels.specs.{Parcel, countedOf, amissOf, faultsOf}
-use Rattle.land_deforestation.specs.{faultsAmong, cases, kilogramsOf, answerOf, emissionsOf, Emissions}
+use Rattle.land_deforestation.specs.{faultsAmong, cases, emittedOf, totalOf, answerOf, emissionsOf, Emissions}
 
 -- a parcel of so many ten-thousandths, cleared in 2013 with no earlier clearing
 abbrev parcel : ℕ → Forest → ℕ → Parcel
@@ -29,5 +29,5 @@ AllHold [] = Unit
 AllHold (e ∷ es) = (emissionsOf (length (e .0)) (e .0) ≡ Emissions.Tonnes (e .1)) × AllHold es
 
 pub examples-hold : AllHold examples
-unfolding AllHold some keep sumBy weighed weighAll smallest tenthsOf treesOf tonnes joined placesFrom stock4 schedule4 placeFour cellAt rateFour elder countingOf countedOf amissOf faultsOf faultsAmong cases kilogramsOf answerOf emissionsOf
+unfolding AllHold some keep sumBy weighed weighAll smallest tenthsOf treesOf tonnes joined placesFrom stock4 schedule4 placeFour cellAt rateFour elder countingOf countedOf amissOf faultsOf faultsAmong cases emittedOf totalOf answerOf emissionsOf
 examples-hold = (refl, (refl, (refl, tt)))

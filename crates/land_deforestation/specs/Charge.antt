@@ -1,7 +1,7 @@
 -- "Emissions are the sum of tenths × Schedule 4 cell × 10 kg over 1 to 64 parcels, rounded to tonnes, half up."
 use Rattle.laws.specs.{ℕ, _||_, List, [], _∷_, eqb, ltb, some, sumBy}
 use Rattle.refusals.specs.{Verdict, Case, _⇒_, smallest, Refusal}
-use Rattle.units.specs.{tenthsOf, treesOf, tonnes}
+use Rattle.units.specs.{Kilograms, tenthsOf, treesOf, tonnes}
 use Rattle.schedules.specs.{schedule4}
 use Rattle.rates.specs.{rateFour}
 use Rattle.land_clearings.specs.{ageOf}
@@ -35,13 +35,16 @@ cases count ps =
     ∷ faultsAmong ps .young ⇒ Refusal.NoTreesOfNineYears
     ∷ []
 
--- a parcel's emissions in kilograms, by the cells of Schedule 4; its hectares are rounded by themselves
-unfoldable pub kilogramsOf : List ℕ → Parcel → ℕ
-kilogramsOf cells p = treesOf (tenthsOf (p .hectares)) (rateFour cells (countedOf p .forest) (ageOf (countedOf p))) .0
+-- a parcel's emissions, by the cells of Schedule 4; its hectares are rounded by themselves
+unfoldable pub emittedOf : List ℕ → Parcel → Kilograms
+emittedOf cells p = treesOf (tenthsOf (p .hectares)) (rateFour cells (countedOf p .forest) (ageOf (countedOf p)))
+
+unfoldable pub totalOf : List ℕ → List Parcel → Kilograms
+totalOf cells ps = record { 0 = sumBy (λ (p : Parcel). emittedOf cells p .0) ps }
 
 unfoldable pub answerOf : Verdict → List Parcel → Emissions
 answerOf (Verdict.Refused refusal) ps = Emissions.Turned refusal
-answerOf Verdict.Accepted ps = Emissions.Tonnes (tonnes (sumBy (kilogramsOf schedule4) ps))
+answerOf Verdict.Accepted ps = Emissions.Tonnes (tonnes (totalOf schedule4 ps .0))
 
 unfoldable pub emissionsOf : ℕ → List Parcel → Emissions
 emissionsOf count ps = answerOf (smallest (cases count ps)) ps

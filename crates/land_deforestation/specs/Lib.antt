@@ -1,4 +1,4 @@
 pub mod Charge
 pub use declared.Emissions.{Emissions}
 pub use Charge.{mostParcels}
-unfoldable pub use Charge.{faultsAmong, cases, kilogramsOf, answerOf, emissionsOf}
+unfoldable pub use Charge.{faultsAmong, cases, emittedOf, totalOf, answerOf, emissionsOf}

@@ -7,9 +7,8 @@ use units::Kilograms;
 ghost use mathlib.Core.Path.{_≡_};
 ghost use Prim.Native.Nat.{_*_, _≤_};
 ghost use lib.ListN.{take};
-ghost use Rattle.laws.specs.{sumBy};
 ghost use Rattle.refusals.specs.{smallest};
-ghost use Rattle.land_deforestation.specs.{faultsAmong, cases, kilogramsOf, emissionsOf};
+ghost use Rattle.land_deforestation.specs.{faultsAmong, cases, emittedOf, totalOf, emissionsOf};
 
 pub const MOST_PARCELS: usize = 64;
 
@@ -71,32 +70,32 @@ fn judge(parcels: [Parcel; MOST_PARCELS], count: usize) -> Verdict
     refusals::weigh(order, found.young, Refusal::NoTreesOfNineYears)
 }
 
-// A parcel's emissions in kilograms, by the cells of Schedule 4.
-fn kilograms(cells: &[u16], p: Parcel) -> u64
-    ensures { λ r. ⌜ (r ≡ kilogramsOf (now (cells .entry)) p) × (r ≤ 4294967295 * 65535 * 10) ⌝ }
+// A parcel's emissions, by the cells of Schedule 4.
+fn emitted(cells: &[u16], p: Parcel) -> Kilograms
+    ensures { λ r. ⌜ (r ≡ emittedOf (now (cells .entry)) p) × (r .0 ≤ 4294967295 * 65535 * 10) ⌝ }
 {
     let counted = land_parcels::counted(p);
     let forest = counted.forest;
     let rate = rates::rate_four(cells, forest, land_clearings::age(counted));
     let land = units::rounded(p.hectares);
-    let emitted = land.trees(rate);
-    emitted.0
+    land.trees(rate)
 }
 
 fn total(cells: &[u16], parcels: [Parcel; MOST_PARCELS], count: usize) -> Kilograms
-    ensures { λ r. ⌜ r .0 ≡ sumBy (kilogramsOf (now (cells .entry))) (take count parcels) ⌝ }
+    ensures { λ r. ⌜ r ≡ totalOf (now (cells .entry)) (take count parcels) ⌝ }
 {
-    let mut sum: u64 = 0;
+    let mut sum = Kilograms::none();
     let mut i: usize = 0;
     while i < MOST_PARCELS {
         if count <= i {
-            return Kilograms(sum);
+            return sum;
         }
         let p = parcels[i];
-        sum += kilograms(cells, p);
+        let more = emitted(cells, p);
+        sum = sum.plus(more);
         i += 1;
     }
-    Kilograms(sum)
+    sum
 }
 
 // The emissions in tonnes, or the refusal of the list.
@@ -108,6 +107,6 @@ pub fn calculate(parcels: [Parcel; MOST_PARCELS], count: usize) -> Emissions
         return Emissions::Turned(refusal);
     }
     let cells = schedules::schedule_four();
-    let emitted = total(&cells, parcels, count);
-    Emissions::Tonnes(emitted.to_tonnes())
+    let sum = total(&cells, parcels, count);
+    Emissions::Tonnes(sum.to_tonnes())
 }

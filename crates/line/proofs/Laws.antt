@@ -62,7 +62,7 @@ first-applies : (cs : List Case) (t : Bool) → t ≡ true → smallest (t ⇒ R
 unfolding smallest weighAll weighed
 first-applies cs t e = rw e (turned-stands Refusal.Form cs)
 
-first-passed : (cs : List Case) (t : Bool) → t ≡ false → smallest (t ⇒ Refusal.Form ∷ cs) ≡ smallest cs
+pub first-passed : (cs : List Case) (t : Bool) → t ≡ false → smallest (t ⇒ Refusal.Form ∷ cs) ≡ smallest cs
 unfolding smallest weighAll weighed
 first-passed cs t e = rw e refl
 

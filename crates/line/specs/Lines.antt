@@ -1,13 +1,17 @@
 -- What a line says: an entry, or the smallest number that refuses it.
-use Rattle.laws.specs.{code, ℕ, _-_, true, cond, List, [], _∷_, eqb, ltb, length, getD, take}
+use Rattle.laws.specs.{code, ℕ, _-_, true, not, cond, List, [], _∷_, eqb, ltb, length, getD, take}
 use Rattle.text.specs.{comma, lineEnd, holds, split}
-use Rattle.refusals.specs.{Case, _⇒_, smallest, Refusal}
+use Rattle.refusals.specs.{Verdict, Case, _⇒_, smallest, Refusal}
 use Rattle.line_entry.specs.{Parsed, Rule, parsed, openRule, addRule, clearRule, plantRule, fileRule, withdrawRule, Act, Entry, on}
 use Rattle.line_column.specs.{columnRule}
 
 -- "a line ends with byte 10 (the last may lack it)": the line besides its end
 unfoldable pub bodyOf : List ℕ → List ℕ
 bodyOf line = cond (eqb (getD line (length line - 1) 0) lineEnd) (take (length line - 1) line) line
+
+-- its fields
+abbrev pub fieldsOf : List ℕ → List (List ℕ)
+fieldsOf line = split (bodyOf line)
 
 abbrev pub longest : ℕ
 longest = 1024
@@ -44,3 +48,7 @@ conditions body = ltb longest (length body) ⇒ Refusal.Form ∷ holds lineEnd b
 
 unfoldable pub entryOf : List ℕ → Parsed
 entryOf line = parsed (smallest (conditions (bodyOf line))) (lineRule (bodyOf line) .entry)
+
+-- a line as a T line: a letter other than T refuses it, and then what refuses any line
+unfoldable pub asColumn : List ℕ → Verdict
+asColumn line = let body = bodyOf line in smallest (not (eqb (letterOf body) (code "T")) ⇒ Refusal.Form ∷ conditions body)

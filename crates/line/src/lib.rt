@@ -1,9 +1,11 @@
 // A line, with its end or without, to an entry or a refusal.
 ghost use mathlib.Core.Path.{_≡_};
-ghost use Rattle.text.specs.{split};
+ghost use lib.ListN.{length};
+ghost use Rattle.refusals.specs.{bufferAfter};
 ghost use Rattle.line_entry.specs.{parsedBy};
-ghost use Rattle.line_column.specs.{roomFor, filled};
-ghost use Rattle.line.specs.{bodyOf, letterOf, lineRule, entryOf};
+ghost use Rattle.line_column.specs.{cellsOf, tenthsAll, readable, columnRead};
+ghost use Rattle.line.specs.{bodyOf, fieldsOf, letterOf, lineRule, entryOf, asColumn};
+use line_column::ReadColumn;
 use line_entry::Parsed;
 use refusals::Refusal;
 use refusals::Verdict;
@@ -68,10 +70,20 @@ pub fn parse(line: &[u8]) -> Parsed
     by_letter(inner)
 }
 
-// Reads the cells of a T line into lent numbers, all of them or none.
-pub fn read_cells(line: &[u8], cells: &mut [u16]) -> Verdict
-    ensures { λ r. ⌜ r ≡ roomFor (split (bodyOf (now (line .entry)))) (now (cells .entry)) ⌝ }
-    ensures { λ _. ⌜ now (cells .exit) ≡ filled (split (bodyOf (now (line .entry)))) (now (cells .entry)) ⌝ }
+// Reads the column of a T line, and its cells into lent numbers: all of them, or none where the line is refused.
+pub fn read_column(line: &[u8], cells: &mut [u16]) -> ReadColumn
+    ensures { λ r. ⌜ r ≡ columnRead (readable (asColumn (now (line .entry))) (fieldsOf (now (line .entry))) (length (now (cells .entry)))) (fieldsOf (now (line .entry))) ⌝ }
+    ensures { λ _. ⌜ now (cells .exit) ≡ bufferAfter (readable (asColumn (now (line .entry))) (fieldsOf (now (line .entry))) (length (now (cells .entry)))) (tenthsAll (cellsOf (fieldsOf (now (line .entry))))) (now (cells .entry)) ⌝ }
 {
-    line_column::read_cells(body(line), cells)
+    let inner = body(line);
+    let other = letter(inner) != b'T';
+    let broken = text::holds(inner, b'\n');
+    if other | (LONGEST < inner.len()) | broken {
+        return ReadColumn {
+            verdict: Verdict::Refused(Refusal::Form),
+            column: 0,
+            count: 0,
+        };
+    }
+    line_column::read_column(inner, cells)
 }

@@ -5,5 +5,5 @@ use Rattle.refusals.specs.{smallest}
 use Rattle.line_entry.specs.{numberAt, areaAndYear}
 use Rattle.line_area.specs.declared.AreaAndYear.{AreaAndYear}
 
-unfoldable pub areaYear : List (List ℕ) → AreaAndYear
-areaYear fs = record { verdict = smallest (areaAndYear fs); area = fitted 65535 (numberAt fs 1); year = fitted 65535 (numberAt fs 2) }
+unfoldable pub areaYear : ℕ → List (List ℕ) → AreaAndYear
+areaYear letter fs = record { verdict = smallest (areaAndYear letter fs); area = fitted 65535 (numberAt fs 1); year = fitted 65535 (numberAt fs 2) }

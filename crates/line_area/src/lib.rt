@@ -7,7 +7,6 @@ use line_entry::Act;
 use line_entry::AreaAct;
 use line_entry::Entry;
 use line_entry::Parsed;
-use refusals::Refusal;
 use refusals::Verdict;
 
 // The fields of A and of R: what refuses them, and the area and the year.
@@ -17,14 +16,13 @@ struct AreaAndYear {
     year: u16,
 }
 
-fn area_and_year(line: &[u8]) -> AreaAndYear
-    ensures { λ r. ⌜ r ≡ areaYear (split (now (line .entry))) ⌝ }
+fn area_and_year(line: &[u8], letter: u8) -> AreaAndYear
+    ensures { λ r. ⌜ r ≡ areaYear letter (split (now (line .entry))) ⌝ }
 {
     let places = text_field::scan(line);
-    let count = places.count;
     let area = line_entry::number_at(line, places, 1);
     let year = line_entry::number_at(line, places, 2);
-    let v = refusals::weigh(Verdict::Accepted, count != 3, Refusal::Form);
+    let v = line_entry::weigh_letter(line, places, letter, 3);
     let v = line_entry::weigh_form(v, area);
     let v = line_entry::weigh_form(v, year);
     let v = line_entry::weigh_area(v, area);
@@ -40,7 +38,7 @@ fn area_and_year(line: &[u8]) -> AreaAndYear
 pub fn open_entry(line: &[u8]) -> Parsed
     ensures { λ r. ⌜ r ≡ parsedBy (openRule (split (now (line .entry)))) ⌝ }
 {
-    let read = area_and_year(line);
+    let read = area_and_year(line, b'A');
     let v = read.verdict;
     match v {
         Verdict::Refused(refusal) => Parsed::Refused(refusal),
@@ -55,7 +53,7 @@ pub fn open_entry(line: &[u8]) -> Parsed
 pub fn file_entry(line: &[u8]) -> Parsed
     ensures { λ r. ⌜ r ≡ parsedBy (fileRule (split (now (line .entry)))) ⌝ }
 {
-    let read = area_and_year(line);
+    let read = area_and_year(line, b'R');
     let v = read.verdict;
     match v {
         Verdict::Refused(refusal) => Parsed::Refused(refusal),
@@ -71,9 +69,8 @@ pub fn withdraw_entry(line: &[u8]) -> Parsed
     ensures { λ r. ⌜ r ≡ parsedBy (withdrawRule (split (now (line .entry)))) ⌝ }
 {
     let places = text_field::scan(line);
-    let count = places.count;
     let area = line_entry::number_at(line, places, 1);
-    let v = refusals::weigh(Verdict::Accepted, count != 2, Refusal::Form);
+    let v = line_entry::weigh_letter(line, places, b'W', 2);
     let v = line_entry::weigh_form(v, area);
     let v = line_entry::weigh_area(v, area);
     match v {

@@ -1,6 +1,7 @@
--- The letter that a field is. Cells: a turn of the scan adds a cell to what was judged and kept.
-use Rattle.laws.proofs.{ℕ, _+_, _-_, _≤_, _<_, _≡_, refl, sym, ap, _∙_, Bool, true, false, _||_, List, [], _∷_, arith, add-one, lt-ltb, le-ltb, length, getD, take, drop, set, length-drop, drop-of-length-le, sets}
+-- Cells: a turn of the scan adds a cell to what was judged and kept.
+use Rattle.laws.proofs.{ℕ, _+_, _-_, _≤_, _<_, _≡_, refl, sym, ap, _∙_, Bool, true, false, _||_, List, arith, add-one, ltb-false, ltb, length, length-map, take, drop, set, length-drop, drop-of-length-le, sets}
 use Rattle.laws.specs.{some}
+use Rattle.laws.proofs.Stores.{stored-in-front}
 use Rattle.text.specs.{comma, widthTo, split}
 use Rattle.text.proofs.Fields.{field-last, field-comma}
 use Rattle.text_number.specs.{Number}
@@ -8,22 +9,9 @@ use Rattle.text_value.specs.{fitted}
 use Rattle.text_decimal.specs.{cellIn}
 use Rattle.text_field.specs.{Places, placesOf}
 use Rattle.text_field.proofs.Laws.{count-found}
-use Rattle.refusals.specs.{Refusal, Verdict}
-use Rattle.line_column.specs.{letterIn, cellsOf, someCell, tenthsAll, cellsFound, roomFor, filled}
-
-pub letter-alone : (s : List ℕ) → length s ≡ 1 → getD s 0 0 ≡ letterIn s
-unfolding letterIn
-letter-alone [] h = absurd (omega arith)
-letter-alone (b ∷ []) h = refl
-letter-alone (b ∷ d ∷ s) h = absurd (omega arith)
-
-pub no-letter : (s : List ℕ) → (length s ≡ 1 → ⊥) → 0 ≡ letterIn s
-unfolding letterIn
-no-letter [] h = refl
-no-letter (b ∷ []) h = absurd (h refl)
-no-letter (b ∷ d ∷ s) h = refl
-
--- ---- a turn of the scan
+use Rattle.refusals.specs.{Refusal, Verdict, weighed, bufferAfter}
+use Rattle.refusals.proofs.Laws.{clear-last}
+use Rattle.line_column.specs.{cellsOf, someCell, columnOf, tenthsIn, tenthsAll, cellsFound, readable, columnRead}
 
 module _ (s : List ℕ) (start end : ℕ) (e : end ≡ start + widthTo comma (drop start s)) (h : start ≤ length s) (cell : Number)
     (read : cell ≡ cellIn (take (end - start) (drop start s))) where
@@ -71,11 +59,28 @@ module _ (fs : List (List ℕ)) (h : length fs ≤ 3) where
   unfolding tenthsAll
   none-kept out = rw (drop-of-length-le fs h)
 
-module _ (fs : List (List ℕ)) (out : List ℕ) (n : ℕ) (e : n ≡ length (cellsOf fs)) where
-  pub short : length out < n → (Verdict.Refused Refusal.OutputShort ≡ roomFor fs out) × (out ≡ filled fs out)
-  unfolding roomFor filled
-  short l = let t = lt-ltb (length out) (length (cellsOf fs)) (omega arith) in (simp t, simp t)
+cells-many : (fs : List (List ℕ)) → length (tenthsAll fs) ≡ length fs
+unfolding tenthsAll
+cells-many fs = length-map fs tenthsIn
 
-  pub enough : (kept : List ℕ) → n ≤ length out → kept ≡ sets out 0 (tenthsAll (cellsOf fs)) → (Verdict.Accepted ≡ roomFor fs out) × (kept ≡ filled fs out)
-  unfolding roomFor filled
-  enough kept l q = let t = le-ltb (length out) (length (cellsOf fs)) (omega arith) in (simp t, q ∙ simp t)
+pub room-weighed : (v own w : Verdict) (fs : List (List ℕ)) (n room : ℕ) → own ≡ v → n ≡ length (cellsOf fs)
+    → w ≡ weighed own (ltb room n) Refusal.OutputShort → w ≡ readable v fs room
+unfolding readable
+room-weighed v own w fs n room p q e = e ∙ simp (p, q)
+
+-- what is read of a line under its own verdict v, by the verdict w that was reached with the room
+module _ (v w : Verdict) (fs : List (List ℕ)) (out : List ℕ) (e : w ≡ readable v fs (length out)) where
+  pub read-refused : (r : Refusal) → w ≡ Verdict.Refused r
+      → (record { verdict = Verdict.Refused r; column = 0; count = 0 } ≡ columnRead (readable v fs (length out)) fs)
+      × (out ≡ bufferAfter (readable v fs (length out)) (tenthsAll (cellsOf fs)) out)
+  unfolding bufferAfter
+  read-refused r k = rw (sym e ∙ k) (refl, refl)
+
+  pub read-clear : (column count : ℕ) (kept : List ℕ) → w ≡ Verdict.Accepted → column ≡ columnOf fs → count ≡ length (cellsOf fs)
+      → kept ≡ sets out 0 (tenthsAll (cellsOf fs))
+      → (record { verdict = Verdict.Accepted; column = column; count = count } ≡ columnRead (readable v fs (length out)) fs)
+      × (kept ≡ bufferAfter (readable v fs (length out)) (tenthsAll (cellsOf fs)) out)
+  unfolding readable bufferAfter
+  read-clear column count kept k n m q =
+      let room = ltb-false (length out) (length (cellsOf fs)) (clear-last v (ltb (length out) (length (cellsOf fs))) Refusal.OutputShort (sym e ∙ k)) in
+      rw (sym e ∙ k) (simp (n, m), q ∙ stored-in-front (tenthsAll (cellsOf fs)) out (omega (arith, cells-many (cellsOf fs), room)))

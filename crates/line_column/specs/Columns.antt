@@ -1,21 +1,16 @@
 -- "T,kind,type,cells: kind G (stock) or R (residue); type P, D, S, H or N; 1 to 101 cells, each a number with at most one decimal, at most 3000."
-use Rattle.laws.specs.{ℕ, Bool, not, cond, List, [], _∷_, map, leb, ltb, length, drop, some, sets}
+use Rattle.laws.specs.{code, ℕ, Bool, not, List, [], _∷_, map, leb, ltb, length, drop, some}
 use Rattle.table.specs.{longestColumn}
 use Rattle.schedules.specs.{cellCeiling}
 use Rattle.text.specs.{holds, fieldAt}
 use Rattle.text_number.specs.{Number}
 use Rattle.text_value.specs.{malformed, outside, fitted}
 use Rattle.text_decimal.specs.{cellIn}
-use Rattle.refusals.specs.{Verdict, _⇒_, Refusal}
+use Rattle.refusals.specs.{Verdict, _⇒_, weighed, Refusal}
 use Rattle.table_parts.specs.{kindLetters, typeLetters, columnNumber}
-use Rattle.line_entry.specs.{Rule, Entry}
+use Rattle.line_entry.specs.{Rule, Entry, letterIn, misnamed}
 use Rattle.line_column.specs.declared.Cells.{Cells}
-
--- the letter that a field is; one of no byte or of several is none, 0
-unfoldable pub letterIn : List ℕ → ℕ
-letterIn [] = 0
-letterIn (b ∷ []) = b
-letterIn (b ∷ c ∷ bs) = 0
+use Rattle.line_column.specs.declared.ReadColumn.{ReadColumn}
 
 -- the place of the first cell among a line's fields
 abbrev pub firstCell : ℕ
@@ -33,17 +28,29 @@ someCell kind fs = some (λ f. kind (cellIn f)) fs
 abbrev pub badCell : Number → Bool
 badCell n = outside 0 cellCeiling n
 
+-- the letters of the column's kind and type
+abbrev pub kindIn : List (List ℕ) → ℕ
+kindIn fs = letterIn (fieldAt fs 1)
+
+abbrev pub typeIn : List (List ℕ) → ℕ
+typeIn fs = letterIn (fieldAt fs 2)
+
+-- the number of the column that they name
+abbrev pub columnOf : List (List ℕ) → ℕ
+columnOf fs = columnNumber (kindIn fs) (typeIn fs)
+
 unfoldable pub columnRule : List (List ℕ) → Rule
-columnRule fs = let kind = letterIn (fieldAt fs 1) in let type = letterIn (fieldAt fs 2) in record {
+columnRule fs = record {
   cases =
-      leb (length fs) firstCell ⇒ Refusal.Form
-      ∷ not (holds kind kindLetters) ⇒ Refusal.Form
+      misnamed (code "T") fs ⇒ Refusal.Form
+      ∷ leb (length fs) firstCell ⇒ Refusal.Form
+      ∷ not (holds (kindIn fs) kindLetters) ⇒ Refusal.Form
       ∷ someCell malformed (cellsOf fs) ⇒ Refusal.Form
-      ∷ not (holds type typeLetters) ⇒ Refusal.ForestType
+      ∷ not (holds (typeIn fs) typeLetters) ⇒ Refusal.ForestType
       ∷ ltb longestColumn (length (cellsOf fs)) ⇒ Refusal.TableColumn
       ∷ someCell badCell (cellsOf fs) ⇒ Refusal.TableColumn
       ∷ [];
-  entry = Entry.Column (columnNumber kind type);
+  entry = Entry.Column (columnOf fs);
 }
 
 -- a cell's tenths; a field that is no cell counts as 0
@@ -57,9 +64,11 @@ tenthsAll fs = map tenthsIn fs
 unfoldable pub cellsFound : List (List ℕ) → Cells
 cellsFound fs = record { malformed = someCell malformed fs; over = someCell badCell fs }
 
--- "8 output shorter than needed": the cells read into lent numbers, all of them or none
-unfoldable pub roomFor : List (List ℕ) → List ℕ → Verdict
-roomFor fs out = cond (ltb (length out) (length (cellsOf fs))) (Verdict.Refused Refusal.OutputShort) Verdict.Accepted
+-- "8 output shorter than needed", "8 only where no other applies": the line's own verdict, and then the room for its cells
+unfoldable pub readable : Verdict → List (List ℕ) → ℕ → Verdict
+readable verdict fs room = weighed verdict (ltb room (length (cellsOf fs))) Refusal.OutputShort
 
-unfoldable pub filled : List (List ℕ) → List ℕ → List ℕ
-filled fs out = cond (ltb (length out) (length (cellsOf fs))) out (sets out 0 (tenthsAll (cellsOf fs)))
+-- what is read of a line's fields: the column's number and how many cells it has; where it is refused, neither
+abbrev pub columnRead : Verdict → List (List ℕ) → ReadColumn
+columnRead Verdict.Accepted fs = record { verdict = Verdict.Accepted; column = columnOf fs; count = length (cellsOf fs) }
+columnRead (Verdict.Refused refusal) fs = record { verdict = Verdict.Refused refusal; column = 0; count = 0 }

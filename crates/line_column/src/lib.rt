@@ -6,7 +6,8 @@ ghost use lib.Seq.{sets};
 ghost use Rattle.text.specs.{split};
 ghost use Rattle.line_entry.specs.{parsedBy};
 ghost use Rattle.text_field.specs.{placesOf};
-ghost use Rattle.line_column.specs.{letterIn, firstCell, cellsOf, cellsFound, tenthsAll, columnRule, roomFor, filled};
+ghost use Rattle.refusals.specs.{smallest, bufferAfter};
+ghost use Rattle.line_column.specs.{firstCell, cellsOf, columnOf, cellsFound, tenthsAll, columnRule, readable, columnRead};
 use line_entry::Entry;
 use line_entry::Parsed;
 use refusals::Refusal;
@@ -19,21 +20,18 @@ pub struct Cells {
     pub over: bool,
 }
 
+// A column read out: its number, and how many cells it has; neither where the line is refused.
+pub struct ReadColumn {
+    pub verdict: Verdict,
+    pub column: usize,
+    pub count: usize,
+}
+
 const FIRST_CELL: usize = 3;
 
 const MOST_CELLS: usize = table::LONGEST_COLUMN as usize;
 
 const GREATEST_CELL: u64 = table::CELL_CEILING as u64;
-
-// The letter that a field is, or 0.
-fn letter_in(field: &[u8]) -> u8
-    ensures { λ r. ⌜ r ≡ letterIn (now (field .entry)) ⌝ }
-{
-    if field.len() != 1 {
-        return 0;
-    }
-    field[0]
-}
 
 // Keeps a cell's tenths, while there is room.
 fn keep(cells: &mut [u16], k: usize, tenths: u16)
@@ -96,42 +94,72 @@ fn all_cells(line: &[u8], places: Places, cells: &mut [u16]) -> Cells
     scan_cells(line, first, cells)
 }
 
+// The fields judged, and what they say of the column whatever the verdict; no cell is kept.
+fn judge(line: &[u8], places: Places) -> ReadColumn
+    requires { ⌜ places ≡ placesOf (split (now line)) ⌝ }
+    ensures { λ r. ⌜ (r .verdict ≡ smallest (columnRule (split (now (line .entry))) .cases)) × (r .column ≡ columnOf (split (now (line .entry)))) × (r .count ≡ length (cellsOf (split (now (line .entry))))) ⌝ }
+{
+    let fields = places.count;
+    let count = cell_count(fields);
+    let first = line_entry::letter_in(text_field::field(line, places, 0));
+    let kind = line_entry::letter_in(text_field::field(line, places, 1));
+    let named = line_entry::letter_in(text_field::field(line, places, 2));
+    let mut unkept = [0u16; 1];
+    let cells = all_cells(line, places, &mut unkept);
+    let v = refusals::weigh(Verdict::Accepted, first != b'T', Refusal::Form);
+    let v = refusals::weigh(v, fields <= FIRST_CELL, Refusal::Form);
+    let v = refusals::weigh(v, !table_parts::is_kind(kind), Refusal::Form);
+    let v = refusals::weigh(v, cells.malformed, Refusal::Form);
+    let v = refusals::weigh(v, !table_parts::is_type(named), Refusal::ForestType);
+    let v = refusals::weigh(v, MOST_CELLS < count, Refusal::TableColumn);
+    let verdict = refusals::weigh(v, cells.over, Refusal::TableColumn);
+    let column = table_parts::column_number(kind, named);
+    ReadColumn {
+        verdict,
+        column,
+        count,
+    }
+}
+
 // T,kind,type,cells
 pub fn column_entry(line: &[u8]) -> Parsed
     ensures { λ r. ⌜ r ≡ parsedBy (columnRule (split (now (line .entry)))) ⌝ }
 {
     let places = text_field::scan(line);
-    let count = places.count;
-    let number = cell_count(count);
-    let kind = letter_in(text_field::field(line, places, 1));
-    let named = letter_in(text_field::field(line, places, 2));
-    let mut unkept = [0u16; 1];
-    let cells = all_cells(line, places, &mut unkept);
-    let v = refusals::weigh(Verdict::Accepted, count <= FIRST_CELL, Refusal::Form);
-    let v = refusals::weigh(v, !table_parts::is_kind(kind), Refusal::Form);
-    let v = refusals::weigh(v, cells.malformed, Refusal::Form);
-    let v = refusals::weigh(v, !table_parts::is_type(named), Refusal::ForestType);
-    let v = refusals::weigh(v, MOST_CELLS < number, Refusal::TableColumn);
-    let v = refusals::weigh(v, cells.over, Refusal::TableColumn);
-    match v {
+    let judged = judge(line, places);
+    let verdict = judged.verdict;
+    match verdict {
         Verdict::Refused(refusal) => Parsed::Refused(refusal),
         Verdict::Accepted => Parsed::Taken(Entry::Column {
-            column: table_parts::column_number(kind, named),
+            column: judged.column,
         }),
     }
 }
 
-// Reads the cells of a T line's fields into lent numbers, all of them or none.
-pub fn read_cells(line: &[u8], cells: &mut [u16]) -> Verdict
-    ensures { λ r. ⌜ r ≡ roomFor (split (now (line .entry))) (now (cells .entry)) ⌝ }
-    ensures { λ _. ⌜ now (cells .exit) ≡ filled (split (now (line .entry))) (now (cells .entry)) ⌝ }
+// Reads the column of a T line's fields, and its cells into lent numbers: all of them, or none where the line is refused.
+pub fn read_column(line: &[u8], cells: &mut [u16]) -> ReadColumn
+    ensures { λ r. ⌜ r ≡ columnRead (readable (smallest (columnRule (split (now (line .entry))) .cases)) (split (now (line .entry))) (length (now (cells .entry)))) (split (now (line .entry))) ⌝ }
+    ensures { λ _. ⌜ now (cells .exit) ≡ bufferAfter (readable (smallest (columnRule (split (now (line .entry))) .cases)) (split (now (line .entry))) (length (now (cells .entry)))) (tenthsAll (cellsOf (split (now (line .entry))))) (now (cells .entry)) ⌝ }
 {
     let places = text_field::scan(line);
-    let count = places.count;
-    let number = cell_count(count);
-    if cells.len() < number {
-        return Verdict::Refused(Refusal::OutputShort);
+    let judged = judge(line, places);
+    let column = judged.column;
+    let count = judged.count;
+    let own = judged.verdict;
+    let verdict = refusals::weigh(own, cells.len() < count, Refusal::OutputShort);
+    match verdict {
+        Verdict::Refused(refusal) => ReadColumn {
+            verdict: Verdict::Refused(refusal),
+            column: 0,
+            count: 0,
+        },
+        Verdict::Accepted => {
+            all_cells(line, places, cells);
+            ReadColumn {
+                verdict: Verdict::Accepted,
+                column,
+                count,
+            }
+        }
     }
-    all_cells(line, places, cells);
-    Verdict::Accepted
 }

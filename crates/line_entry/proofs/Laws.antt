@@ -1,5 +1,5 @@
 -- Rules: what a verdict makes of an entry, and that every letter's table rises, so that what refuses is the smallest number that applies.
-use Rattle.laws.proofs.{ℕ, _≤_, _<_, _≡_, sym, ap, _∙_, Bool, true, false, lit≤, List}
+use Rattle.laws.proofs.{ℕ, _≤_, _<_, _≡_, refl, sym, ap, _∙_, Bool, true, false, lit≤, List, [], _∷_, arith, length, getD}
 use Rattle.forest.specs.{Named}
 use Rattle.text.specs.{split, fieldAt}
 use Rattle.text_number.specs.{Number, numberIn}
@@ -8,7 +8,7 @@ use Rattle.text_value.proofs.Laws.{fitted-is}
 use Rattle.text_field.specs.{Places, placesOf, part}
 use Rattle.text_field.proofs.Laws.{field-found}
 use Rattle.refusals.specs.{Refusal, Verdict}
-use Rattle.line_entry.specs.{Entry, numberAt, parsed, Parsed}
+use Rattle.line_entry.specs.{Entry, letterIn, numberAt, parsed, Parsed}
 use Rattle.ranges.specs.{isBare}
 use Rattle.line_type.specs.{misdatedIf, misdated}
 
@@ -43,3 +43,17 @@ planted-found type n m v e q i = go type i
     go : (type : Named) → misdated type m ≡ false → v ≡ valueOf m
     go (Named.Listed forest) i = dated (isBare forest) i
     go Named.Unlisted i = dated false i
+
+-- ---- the letter that a field is
+
+pub letter-alone : (s : List ℕ) → length s ≡ 1 → getD s 0 0 ≡ letterIn s
+unfolding letterIn
+letter-alone [] h = absurd (omega arith)
+letter-alone (b ∷ []) h = refl
+letter-alone (b ∷ d ∷ s) h = absurd (omega arith)
+
+pub no-letter : (s : List ℕ) → (length s ≡ 1 → ⊥) → 0 ≡ letterIn s
+unfolding letterIn
+no-letter [] h = refl
+no-letter (b ∷ []) h = absurd (h refl)
+no-letter (b ∷ d ∷ s) h = refl

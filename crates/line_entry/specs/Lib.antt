@@ -3,5 +3,5 @@ pub use declared.Act.{Act}
 pub use declared.AreaAct.{AreaAct}
 pub use declared.Entry.{Entry}
 pub use declared.Parsed.{Parsed}
-pub use Rules.{numberAt, hectaresAt, typeAt, badArea, badSub, badHectares, badYear, on, Rule, parsedBy, miscounted}
-unfoldable pub use Rules.{parsed, areaAndYear, openRule, fileRule, addRule, clearRule, plantRule, withdrawRule}
+pub use Rules.{numberAt, hectaresAt, typeAt, badArea, badSub, badHectares, badYear, on, Rule, parsedBy, misnamed, misformed}
+unfoldable pub use Rules.{letterIn, parsed, areaAndYear, openRule, fileRule, addRule, clearRule, plantRule, withdrawRule}

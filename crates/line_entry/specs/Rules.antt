@@ -1,6 +1,6 @@
 -- "Entries" of document 01, letter by letter: the cases in which its fields are refused, by rising number, and the entry otherwise.
 -- The form of the whole line is judged first.
-use Rattle.laws.specs.{ℕ, Bool, not, List, [], _∷_, eqb, length}
+use Rattle.laws.specs.{code, ℕ, Bool, not, _||_, List, [], _∷_, eqb, length}
 use Rattle.units.specs.{tenthsOf}
 use Rattle.text_value.specs.{malformed, valueOf, outside}
 use Rattle.line_type.specs.{unlisted, unplantable, misdated, forestOf}
@@ -58,16 +58,26 @@ parsed (Verdict.Refused r) e = Parsed.Refused r
 abbrev pub parsedBy : Rule → Parsed
 parsedBy rule = parsed (smallest (rule .cases)) (rule .entry)
 
--- "1 .. field count"
-abbrev pub miscounted : ℕ → List (List ℕ) → Bool
-miscounted n fs = not (eqb (length fs) n)
+-- the letter that a field is; one of no byte or of several is none, 0
+unfoldable pub letterIn : List ℕ → ℕ
+letterIn [] = 0
+letterIn (b ∷ []) = b
+letterIn (b ∷ c ∷ bs) = 0
+
+-- "1 wrong letter": the first field
+abbrev pub misnamed : ℕ → List (List ℕ) → Bool
+misnamed letter fs = not (eqb (letterIn (fieldAt fs 0)) letter)
+
+-- "1 wrong letter .., field count"
+abbrev pub misformed : ℕ → ℕ → List (List ℕ) → Bool
+misformed letter n fs = misnamed letter fs || not (eqb (length fs) n)
 
 -- the fields of A and of R: an area and a year
-unfoldable pub areaAndYear : List (List ℕ) → List Case
-areaAndYear fs =
+unfoldable pub areaAndYear : ℕ → List (List ℕ) → List Case
+areaAndYear letter fs =
     let area = numberAt fs 1 in
     let year = numberAt fs 2 in
-    miscounted 3 fs ⇒ Refusal.Form
+    misformed letter 3 fs ⇒ Refusal.Form
     ∷ malformed area ⇒ Refusal.Form
     ∷ malformed year ⇒ Refusal.Form
     ∷ badArea area ⇒ Refusal.AreaOrSubNumber
@@ -76,11 +86,11 @@ areaAndYear fs =
 
 -- "A,area,opening: opens an area on 1 January of opening (2008 to 2199)."
 unfoldable pub openRule : List (List ℕ) → Rule
-openRule fs = record { cases = areaAndYear fs; entry = Entry.On (on (valueOf (numberAt fs 1)) (Act.Open (valueOf (numberAt fs 2)))) }
+openRule fs = record { cases = areaAndYear (code "A") fs; entry = Entry.On (on (valueOf (numberAt fs 1)) (Act.Open (valueOf (numberAt fs 2)))) }
 
 -- "R,area,last: return from the open year to 31 December of last (2008 to 2199)."
 unfoldable pub fileRule : List (List ℕ) → Rule
-fileRule fs = record { cases = areaAndYear fs; entry = Entry.On (on (valueOf (numberAt fs 1)) (Act.File (valueOf (numberAt fs 2)))) }
+fileRule fs = record { cases = areaAndYear (code "R") fs; entry = Entry.On (on (valueOf (numberAt fs 1)) (Act.File (valueOf (numberAt fs 2)))) }
 
 -- "S,area,sub,hectares,type,planted"
 unfoldable pub addRule : List (List ℕ) → Rule
@@ -92,7 +102,7 @@ addRule fs =
     let planted = numberAt fs 5 in
     record {
       cases =
-          miscounted 6 fs ⇒ Refusal.Form
+          misformed (code "S") 6 fs ⇒ Refusal.Form
           ∷ malformed area ⇒ Refusal.Form
           ∷ malformed sub ⇒ Refusal.Form
           ∷ malformed hectares ⇒ Refusal.Form
@@ -110,7 +120,7 @@ addRule fs =
 unfoldable pub clearRule : List (List ℕ) → Rule
 clearRule fs = let area = numberAt fs 1 in let sub = numberAt fs 2 in let year = numberAt fs 3 in record {
   cases =
-      miscounted 4 fs ⇒ Refusal.Form
+      misformed (code "C") 4 fs ⇒ Refusal.Form
       ∷ malformed area ⇒ Refusal.Form
       ∷ malformed sub ⇒ Refusal.Form
       ∷ malformed year ⇒ Refusal.Form
@@ -130,7 +140,7 @@ plantRule fs =
     let year = numberAt fs 4 in
     record {
       cases =
-          miscounted 5 fs ⇒ Refusal.Form
+          misformed (code "P") 5 fs ⇒ Refusal.Form
           ∷ malformed area ⇒ Refusal.Form
           ∷ malformed sub ⇒ Refusal.Form
           ∷ malformed year ⇒ Refusal.Form
@@ -146,7 +156,7 @@ plantRule fs =
 unfoldable pub withdrawRule : List (List ℕ) → Rule
 withdrawRule fs = let area = numberAt fs 1 in record {
   cases =
-      miscounted 2 fs ⇒ Refusal.Form
+      misformed (code "W") 2 fs ⇒ Refusal.Form
       ∷ malformed area ⇒ Refusal.Form
       ∷ badArea area ⇒ Refusal.AreaOrSubNumber
       ∷ [];

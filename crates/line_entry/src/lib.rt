@@ -4,7 +4,9 @@ ghost use Rattle.text_number.specs.{numberIn};
 ghost use Rattle.text_value.specs.{malformed};
 ghost use Rattle.text_field.specs.{part};
 ghost use Rattle.refusals.specs.{weighed};
-ghost use Rattle.line_entry.specs.{badArea, badSub, badYear};
+ghost use lib.Dec.{eqb};
+ghost use mathlib.Core.Bool.{not, _||_};
+ghost use Rattle.line_entry.specs.{letterIn, badArea, badSub, badYear};
 use forest::Forest;
 use refusals::Refusal;
 use refusals::Verdict;
@@ -54,6 +56,29 @@ pub enum Entry {
 pub enum Parsed {
     Taken(Entry),
     Refused(Refusal),
+}
+
+// The letter that a field is, or 0.
+pub fn letter_in(field: &[u8]) -> u8
+    ensures { λ r. ⌜ r ≡ letterIn (now (field .entry)) ⌝ }
+{
+    if field.len() != 1 {
+        return 0;
+    }
+    field[0]
+}
+
+// 1: another letter in front, or another number of fields.
+pub fn weigh_letter(line: &[u8], places: Places, letter: u8, fields: usize) -> Verdict
+    ensures { λ r. ⌜ r ≡ weighed Verdict.Accepted (not (eqb (letterIn (part (now (line .entry)) places 0)) letter) || not (eqb (places .count) fields)) Refusal.Form ⌝ }
+{
+    let first = letter_in(text_field::field(line, places, 0));
+    let count = places.count;
+    weigh(
+        Verdict::Accepted,
+        (first != letter) | (count != fields),
+        Refusal::Form,
+    )
 }
 
 // The number in the field at a place.

@@ -14,11 +14,10 @@ pub fn clear_entry(line: &[u8]) -> Parsed
     ensures { λ r. ⌜ r ≡ parsedBy (clearRule (split (now (line .entry)))) ⌝ }
 {
     let places = text_field::scan(line);
-    let count = places.count;
     let area = line_entry::number_at(line, places, 1);
     let sub = line_entry::number_at(line, places, 2);
     let year = line_entry::number_at(line, places, 3);
-    let v = refusals::weigh(Verdict::Accepted, count != 4, Refusal::Form);
+    let v = line_entry::weigh_letter(line, places, b'C', 4);
     let v = line_entry::weigh_form(v, area);
     let v = line_entry::weigh_form(v, sub);
     let v = line_entry::weigh_form(v, year);
@@ -42,12 +41,11 @@ pub fn plant_entry(line: &[u8]) -> Parsed
     ensures { λ r. ⌜ r ≡ parsedBy (plantRule (split (now (line .entry)))) ⌝ }
 {
     let places = text_field::scan(line);
-    let count = places.count;
     let area = line_entry::number_at(line, places, 1);
     let sub = line_entry::number_at(line, places, 2);
     let named = forest::read(text_field::field(line, places, 3));
     let year = line_entry::number_at(line, places, 4);
-    let v = refusals::weigh(Verdict::Accepted, count != 5, Refusal::Form);
+    let v = line_entry::weigh_letter(line, places, b'P', 5);
     let v = line_entry::weigh_form(v, area);
     let v = line_entry::weigh_form(v, sub);
     let v = line_entry::weigh_form(v, year);

@@ -18,13 +18,12 @@ pub fn add_entry(line: &[u8]) -> Parsed
     ensures { λ r. ⌜ r ≡ parsedBy (addRule (split (now (line .entry)))) ⌝ }
 {
     let places = text_field::scan(line);
-    let count = places.count;
     let area = line_entry::number_at(line, places, 1);
     let sub = line_entry::number_at(line, places, 2);
     let hectares = text_decimal::hectares(text_field::field(line, places, 3));
     let named = forest::read(text_field::field(line, places, 4));
     let planted = line_entry::number_at(line, places, 5);
-    let v = refusals::weigh(Verdict::Accepted, count != 6, Refusal::Form);
+    let v = line_entry::weigh_letter(line, places, b'S', 6);
     let v = line_entry::weigh_form(v, area);
     let v = line_entry::weigh_form(v, sub);
     let v = line_entry::weigh_form(v, hectares);

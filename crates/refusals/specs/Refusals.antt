@@ -1,5 +1,5 @@
 -- Refusals under document 01's numbers ("Turned back by the input", "Turned back by the state"), and the smallest that applies.
-use Rattle.laws.specs.{ℕ, Bool, true, false, List, [], _∷_}
+use Rattle.laws.specs.{ℕ, Bool, true, false, cond, List, [], _∷_, leb}
 use Rattle.refusals.specs.declared.Refusal.{Refusal}
 use Rattle.refusals.specs.declared.Verdict.{Verdict}
 
@@ -62,3 +62,9 @@ weighAll v (c ∷ cs) = weighAll (weighed v (c .applies) (c .refusal)) cs
 -- "The smallest number that applies is given, otherwise none": the first that applies, of cases in rising order
 unfoldable pub smallest : List Case → Verdict
 smallest cs = weighAll Verdict.Accepted cs
+
+-- of two verdicts the refusal with the smaller number
+abbrev pub smaller : Verdict → Verdict → Verdict
+smaller Verdict.Accepted other = other
+smaller (Verdict.Refused r) Verdict.Accepted = Verdict.Refused r
+smaller (Verdict.Refused r) (Verdict.Refused s) = cond (leb (numberOf r) (numberOf s)) (Verdict.Refused r) (Verdict.Refused s)

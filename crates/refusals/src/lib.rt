@@ -1,6 +1,6 @@
 // Refusals under document 01's numbers, the smallest that applies, and what a write into a lent buffer answers.
 ghost use mathlib.Core.Path.{_≡_};
-ghost use Rattle.refusals.specs.{numberOf, weighed};
+ghost use Rattle.refusals.specs.{numberOf, weighed, smaller};
 
 pub enum Refusal {
     Form,
@@ -84,5 +84,23 @@ pub fn weigh(so_far: Verdict, applies: bool, refusal: Refusal) -> Verdict
             }
             Verdict::Accepted
         }
+    }
+}
+
+// Of two verdicts the refusal with the smaller number.
+pub fn least(a: Verdict, b: Verdict) -> Verdict
+    ensures { λ r. ⌜ r ≡ smaller a b ⌝ }
+{
+    match a {
+        Verdict::Accepted => b,
+        Verdict::Refused(first) => match b {
+            Verdict::Accepted => a,
+            Verdict::Refused(second) => {
+                if number(first) <= number(second) {
+                    return a;
+                }
+                b
+            }
+        },
     }
 }

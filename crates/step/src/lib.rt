@@ -1,37 +1,45 @@
-// A step of a holding: an act on the area that it names. Both tables are lent: the participant's, and the cells of Schedule 6.
+// A step of a holding: an act on the area that it names.
 ghost use mathlib.Core.Path.{_≡_};
-ghost use Rattle.step.specs.{appliedTo, applied};
+ghost use Rattle.step.specs.{acted, stepped};
 use holding::Holding;
 use holding_look::Looked;
 use line_entry::Act;
 use line_entry::AreaAct;
+use refusals::Verdict;
 use step_outcome::Outcome;
 
-// An act on the area that it names, as it was looked up.
-pub fn apply_to<'a>(own: &'a [u16], default: &'a [u16], looked: Looked, on: AreaAct) -> Outcome
-    ensures { λ r. ⌜ r ≡ appliedTo (now (own .entry)) (now (default .entry)) looked on ⌝ }
+// An act on the area that was looked up. Both tables are lent, as whoever calls has judged them: the participant's, and the cells of Schedule 6.
+pub fn apply_to<'a>(own: &'a [u16], default: &'a [u16], looked: Looked, act: Act) -> Outcome
+    ensures { λ r. ⌜ r ≡ acted (now (own .entry)) (now (default .entry)) looked act ⌝ }
 {
-    let area = on.area;
-    let act = on.act;
     match act {
-        Act::Open { opening } => step_open::open(looked, area, opening),
+        Act::Open { opening } => step_open::open(looked, opening),
         Act::Add {
             sub,
             land,
             forest,
             planted,
-        } => step_add::add(own, default, looked, area, sub, land, forest, planted),
-        Act::Clear { sub, year } => step_clear::clear(looked, area, sub, year),
-        Act::Plant { sub, forest, year } => step_plant::plant(looked, area, sub, forest, year),
-        Act::File { last } => step_file::file(own, default, looked, area, last),
-        Act::Withdraw => step_withdraw::withdraw(looked, area),
+        } => step_add::add(own, default, looked, sub, land, forest, planted),
+        Act::Clear { sub, year } => step_clear::clear(looked, sub, year),
+        Act::Plant { sub, forest, year } => step_plant::plant(looked, sub, forest, year),
+        Act::File { last } => step_file::file(own, default, looked, last),
+        Act::Withdraw => step_withdraw::withdraw(looked),
     }
 }
 
-// An act on a holding.
-pub fn apply<'a>(own: &'a [u16], default: &'a [u16], holding: Holding, on: AreaAct) -> Outcome
-    ensures { λ r. ⌜ r ≡ applied (now (own .entry)) (now (default .entry)) holding on ⌝ }
+// A step of a holding under a participant's table, which is judged; Schedule 6 serves where it has no column.
+pub fn enter(own: &[u16], holding: Holding, on: AreaAct) -> Outcome
+    ensures { λ r. ⌜ r ≡ stepped (now (own .entry)) holding on ⌝ }
 {
+    let default = schedules::schedule_six();
     let looked = holding_look::look_up(holding, on.area);
-    apply_to(own, default, looked, on)
+    let act = on.act;
+    let outcome = apply_to(own, &default, looked, act);
+    let table_verdict = table::judge(own);
+    let act_verdict = outcome.verdict;
+    let v = refusals::least(table_verdict, act_verdict);
+    match v {
+        Verdict::Refused(refusal) => step_outcome::turned(refusal),
+        Verdict::Accepted => outcome,
+    }
 }

@@ -31,8 +31,8 @@ addedArea own default area sub =
     withStock (record { 0 = area .stock .0 + subStock own default sub (area .opening) .0 })
     (withSubs (area .count + 1) (set (area .subs) (area .count) sub) area)
 
-unfoldable pub added : List ℕ → List ℕ → Looked → ℕ → Sub → Outcome
-added own default looked number sub =
+unfoldable pub added : List ℕ → List ℕ → Looked → Sub → Outcome
+added own default looked sub =
     let area = looked .area in
-    answered (smallest (addCases number sub (looked .found) area))
+    answered (smallest (addCases (looked .number) sub (looked .found) area))
     (accepted Report.Nothing (looked .found) (looked .count) (addedArea own default area sub))

@@ -16,7 +16,6 @@ use refusals::Refusal;
 use refusals::Verdict;
 use step_outcome::Outcome;
 use step_outcome::Report;
-use units::Kilograms;
 use units::Tenths;
 
 fn verdict(number: u16, sub: Sub, found: Found, area: Area) -> Verdict
@@ -50,20 +49,19 @@ fn added_area<'a>(own: &'a [u16], default: &'a [u16], area: Area, sub: Sub) -> A
     let count = area.count;
     let stock = area.stock;
     let more = stocks::sub_stock(own, default, sub, area.opening);
-    let sum = Kilograms(stock.0 + more.0);
     let mut after = area;
-    after.stock = sum;
+    after.stock = stock.plus(more);
     after.count = count + 1;
     after.subs[count] = sub;
     after
 }
 
-fn add_sub<'a>(own: &'a [u16], default: &'a [u16], looked: Looked, number: u16, sub: Sub) -> Outcome
-    ensures { λ r. ⌜ r ≡ added (now (own .entry)) (now (default .entry)) looked number sub ⌝ }
+fn add_sub<'a>(own: &'a [u16], default: &'a [u16], looked: Looked, sub: Sub) -> Outcome
+    ensures { λ r. ⌜ r ≡ added (now (own .entry)) (now (default .entry)) looked sub ⌝ }
 {
     let found = looked.found;
     let area = looked.area;
-    let v = verdict(number, sub, found, area);
+    let v = verdict(looked.number, sub, found, area);
     match v {
         Verdict::Refused(refusal) => step_outcome::turned(refusal),
         Verdict::Accepted => Outcome {
@@ -81,13 +79,12 @@ pub fn add<'a>(
     own: &'a [u16],
     default: &'a [u16],
     looked: Looked,
-    number: u16,
     sub: u8,
     land: Tenths,
     forest: Forest,
     planted: u16,
 ) -> Outcome
-    ensures { λ r. ⌜ r ≡ added (now (own .entry)) (now (default .entry)) looked number (newSub sub land forest planted) ⌝ }
+    ensures { λ r. ⌜ r ≡ added (now (own .entry)) (now (default .entry)) looked (newSub sub land forest planted) ⌝ }
 {
     let residue = Residue {
         forest: Forest::Bare,
@@ -101,5 +98,5 @@ pub fn add<'a>(
         planted,
         residue,
     };
-    add_sub(own, default, looked, number, entered)
+    add_sub(own, default, looked, entered)
 }

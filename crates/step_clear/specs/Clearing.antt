@@ -26,8 +26,8 @@ clearedSub sub year = withResidue (record { forest = sub .forest; age = year - s
 unfoldable pub clearedArea : Area → ℕ → ℕ → Area
 clearedArea area sub year = let stand = findSub area sub in withSub area stand (clearedSub (subAt area stand) year) year
 
-unfoldable pub cleared : Looked → ℕ → ℕ → ℕ → Outcome
-cleared looked number sub year =
+unfoldable pub cleared : Looked → ℕ → ℕ → Outcome
+cleared looked sub year =
     let area = looked .area in
-    answered (smallest (clearCases number sub year (looked .found) area))
+    answered (smallest (clearCases (looked .number) sub year (looked .found) area))
     (accepted Report.Nothing (looked .found) (looked .count) (clearedArea area sub year))

@@ -57,12 +57,12 @@ fn cleared_area(area: Area, sub: u8, year: u16) -> Area
     holding_look::with_sub(area, stand, cleared_sub(before, year), year)
 }
 
-pub fn clear(looked: Looked, number: u16, sub: u8, year: u16) -> Outcome
-    ensures { λ r. ⌜ r ≡ cleared looked number sub year ⌝ }
+pub fn clear(looked: Looked, sub: u8, year: u16) -> Outcome
+    ensures { λ r. ⌜ r ≡ cleared looked sub year ⌝ }
 {
     let found = looked.found;
     let area = looked.area;
-    let v = verdict(number, sub, year, found, area);
+    let v = verdict(looked.number, sub, year, found, area);
     match v {
         Verdict::Refused(refusal) => step_outcome::turned(refusal),
         Verdict::Accepted => Outcome {

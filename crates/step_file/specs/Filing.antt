@@ -39,11 +39,11 @@ filedArea own default area last =
     (withUnits (area .received + receivedOf change) (area .surrendered + dueOf change (balanceOf area)) area))
 
 -- "R: area, first and last year, change, received, due, balance"
-unfoldable pub returnOf : List ℕ → List ℕ → Area → ℕ → ℕ → Report
-returnOf own default area number last =
+unfoldable pub returnOf : List ℕ → List ℕ → Area → ℕ → Report
+returnOf own default area last =
     let change = changeOf own default area last in
     Report.Return (record {
-      area = number;
+      area = area .number;
       first = area .«open_year»;
       last = last;
       change = change;
@@ -52,11 +52,11 @@ returnOf own default area number last =
       balance = balanceOf (filedArea own default area last);
     })
 
-abbrev pub settledOf : List ℕ → List ℕ → Area → ℕ → ℕ → Settled
-settledOf own default area number last = record { report = returnOf own default area number last; area = filedArea own default area last }
+abbrev pub settledOf : List ℕ → List ℕ → Area → ℕ → Settled
+settledOf own default area last = record { report = returnOf own default area last; area = filedArea own default area last }
 
-unfoldable pub filed : List ℕ → List ℕ → Looked → ℕ → ℕ → Outcome
-filed own default looked number last =
+unfoldable pub filed : List ℕ → List ℕ → Looked → ℕ → Outcome
+filed own default looked last =
     let area = looked .area in
-    answered (smallest (fileCases number last (looked .found) area))
-    (accepted (returnOf own default area number last) (looked .found) (looked .count) (filedArea own default area last))
+    answered (smallest (fileCases (looked .number) last (looked .found) area))
+    (accepted (returnOf own default area last) (looked .found) (looked .count) (filedArea own default area last))

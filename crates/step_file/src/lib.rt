@@ -63,9 +63,9 @@ struct Settled {
     area: Area,
 }
 
-fn settle<'a>(own: &'a [u16], default: &'a [u16], area: Area, number: u16, last: u16) -> Settled
+fn settle<'a>(own: &'a [u16], default: &'a [u16], area: Area, last: u16) -> Settled
     requires { ⌜ (fieldsCarried area ≡ true) × (last ≤ 2199) ⌝ }
-    ensures { λ r. ⌜ r ≡ settledOf (now (own .entry)) (now (default .entry)) area number last ⌝ }
+    ensures { λ r. ⌜ r ≡ settledOf (now (own .entry)) (now (default .entry)) area last ⌝ }
 {
     let opening = area.stock;
     let closing = stocks::area_stock(own, default, area, last + 1);
@@ -81,7 +81,7 @@ fn settle<'a>(own: &'a [u16], default: &'a [u16], area: Area, number: u16, last:
     let balance = after.received - after.surrendered;
     Settled {
         report: Report::Return(Filed {
-            area: number,
+            area: area.number,
             first: area.open_year,
             last,
             change,
@@ -93,22 +93,16 @@ fn settle<'a>(own: &'a [u16], default: &'a [u16], area: Area, number: u16, last:
     }
 }
 
-pub fn file<'a>(
-    own: &'a [u16],
-    default: &'a [u16],
-    looked: Looked,
-    number: u16,
-    last: u16,
-) -> Outcome
-    ensures { λ r. ⌜ r ≡ filed (now (own .entry)) (now (default .entry)) looked number last ⌝ }
+pub fn file<'a>(own: &'a [u16], default: &'a [u16], looked: Looked, last: u16) -> Outcome
+    ensures { λ r. ⌜ r ≡ filed (now (own .entry)) (now (default .entry)) looked last ⌝ }
 {
     let found = looked.found;
     let area = looked.area;
-    let v = verdict(number, last, found, area);
+    let v = verdict(looked.number, last, found, area);
     match v {
         Verdict::Refused(refusal) => step_outcome::turned(refusal),
         Verdict::Accepted => {
-            let settled = settle(own, default, area, number, last);
+            let settled = settle(own, default, area, last);
             let report = settled.report;
             let after = settled.area;
             Outcome {

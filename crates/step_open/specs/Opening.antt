@@ -7,16 +7,17 @@ use Rattle.holding_look.specs.{Looked, known}
 use Rattle.step_outcome.specs.{Outcome, accepted, answered, uncarried, Report}
 
 -- "21 area already used"; "24 sixteen areas stand"
-unfoldable pub openCases : Looked → ℕ → ℕ → List Case
-openCases looked number opening =
-    not (isArea number) ⇒ Refusal.AreaOrSubNumber
+unfoldable pub openCases : Looked → ℕ → List Case
+openCases looked opening =
+    not (isArea (looked .number)) ⇒ Refusal.AreaOrSubNumber
     ∷ not (isYear opening) ⇒ Refusal.YearRange
     ∷ uncarried (looked .found) (looked .area) ⇒ Refusal.CarriedStatement
     ∷ known (looked .found) ⇒ Refusal.AreaUsed
     ∷ leb mostAreas (looked .count) ⇒ Refusal.AreasFull
     ∷ []
 
-unfoldable pub opened : Looked → ℕ → ℕ → Outcome
-opened looked number opening =
-    answered (smallest (openCases looked number opening))
-    (accepted Report.Nothing (Found.At (looked .count)) (looked .count + 1) (openedArea number opening))
+-- the area of the number that was looked for
+unfoldable pub opened : Looked → ℕ → Outcome
+opened looked opening =
+    answered (smallest (openCases looked opening))
+    (accepted Report.Nothing (Found.At (looked .count)) (looked .count + 1) (openedArea (looked .number) opening))

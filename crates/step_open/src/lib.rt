@@ -10,14 +10,14 @@ use refusals::Verdict;
 use step_outcome::Outcome;
 use step_outcome::Report;
 
-fn verdict(looked: Looked, number: u16, opening: u16) -> Verdict
-    ensures { λ r. ⌜ r ≡ smallest (openCases looked number opening) ⌝ }
+fn verdict(looked: Looked, opening: u16) -> Verdict
+    ensures { λ r. ⌜ r ≡ smallest (openCases looked opening) ⌝ }
 {
     let found = looked.found;
     let area = looked.area;
     let v = refusals::weigh(
         Verdict::Accepted,
-        !ranges::is_area(number),
+        !ranges::is_area(looked.number),
         Refusal::AreaOrSubNumber,
     );
     let v = refusals::weigh(v, !ranges::is_year(opening), Refusal::YearRange);
@@ -26,16 +26,17 @@ fn verdict(looked: Looked, number: u16, opening: u16) -> Verdict
     refusals::weigh(v, MOST_AREAS <= looked.count, Refusal::AreasFull)
 }
 
-pub fn open(looked: Looked, number: u16, opening: u16) -> Outcome
-    ensures { λ r. ⌜ r ≡ opened looked number opening ⌝ }
+// Opens the area of the number that was looked for.
+pub fn open(looked: Looked, opening: u16) -> Outcome
+    ensures { λ r. ⌜ r ≡ opened looked opening ⌝ }
 {
-    let v = verdict(looked, number, opening);
+    let v = verdict(looked, opening);
     match v {
         Verdict::Refused(refusal) => step_outcome::turned(refusal),
         Verdict::Accepted => {
             let count = looked.count;
             let mut area = holding::empty_area();
-            area.number = number;
+            area.number = looked.number;
             area.opening = opening;
             area.open_year = opening;
             Outcome {

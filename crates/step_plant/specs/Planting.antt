@@ -27,8 +27,8 @@ plantedSub sub forest year = withTrees forest year sub
 unfoldable pub plantedArea : Area → ℕ → Forest → ℕ → Area
 plantedArea area sub forest year = let stand = findSub area sub in withSub area stand (plantedSub (subAt area stand) forest year) year
 
-unfoldable pub planted : Looked → ℕ → ℕ → Forest → ℕ → Outcome
-planted looked number sub forest year =
+unfoldable pub planted : Looked → ℕ → Forest → ℕ → Outcome
+planted looked sub forest year =
     let area = looked .area in
-    answered (smallest (plantCases number sub forest year (looked .found) area))
+    answered (smallest (plantCases (looked .number) sub forest year (looked .found) area))
     (accepted Report.Nothing (looked .found) (looked .count) (plantedArea area sub forest year))

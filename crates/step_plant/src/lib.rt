@@ -56,12 +56,12 @@ fn planted_area(area: Area, sub: u8, forest: Forest, year: u16) -> Area
     holding_look::with_sub(area, stand, planted_sub(before, forest, year), year)
 }
 
-pub fn plant(looked: Looked, number: u16, sub: u8, forest: Forest, year: u16) -> Outcome
-    ensures { λ r. ⌜ r ≡ planted looked number sub forest year ⌝ }
+pub fn plant(looked: Looked, sub: u8, forest: Forest, year: u16) -> Outcome
+    ensures { λ r. ⌜ r ≡ planted looked sub forest year ⌝ }
 {
     let found = looked.found;
     let area = looked.area;
-    let v = verdict(number, sub, forest, year, found, area);
+    let v = verdict(looked.number, sub, forest, year, found, area);
     match v {
         Verdict::Refused(refusal) => step_outcome::turned(refusal),
         Verdict::Accepted => Outcome {

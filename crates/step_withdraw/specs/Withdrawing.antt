@@ -13,8 +13,8 @@ withdrawCases number found area = not (isArea number) ⇒ Refusal.AreaOrSubNumbe
 unfoldable pub withdrawnArea : Area → Area
 withdrawnArea area = asWithdrawn (withUnits (area .received) (area .surrendered + balanceOf area) area)
 
-unfoldable pub withdrawn : Looked → ℕ → Outcome
-withdrawn looked number =
+unfoldable pub withdrawn : Looked → Outcome
+withdrawn looked =
     let area = looked .area in
-    answered (smallest (withdrawCases number (looked .found) area))
-    (accepted (Report.Withdrawal number (balanceOf area)) (looked .found) (looked .count) (withdrawnArea area))
+    answered (smallest (withdrawCases (looked .number) (looked .found) area))
+    (accepted (Report.Withdrawal (area .number) (balanceOf area)) (looked .found) (looked .count) (withdrawnArea area))

@@ -21,12 +21,12 @@ fn verdict(number: u16, found: Found, area: Area) -> Verdict
     step_outcome::weigh_area(v, found, area)
 }
 
-pub fn withdraw(looked: Looked, number: u16) -> Outcome
-    ensures { λ r. ⌜ r ≡ withdrawn looked number ⌝ }
+pub fn withdraw(looked: Looked) -> Outcome
+    ensures { λ r. ⌜ r ≡ withdrawn looked ⌝ }
 {
     let found = looked.found;
     let area = looked.area;
-    let v = verdict(number, found, area);
+    let v = verdict(looked.number, found, area);
     match v {
         Verdict::Refused(refusal) => step_outcome::turned(refusal),
         Verdict::Accepted => {
@@ -36,7 +36,10 @@ pub fn withdraw(looked: Looked, number: u16) -> Outcome
             after.surrendered = area.surrendered + due;
             Outcome {
                 verdict: Verdict::Accepted,
-                report: Report::Withdrawal { area: number, due },
+                report: Report::Withdrawal {
+                    area: area.number,
+                    due,
+                },
                 place: found,
                 count: looked.count,
                 area: after,

@@ -1,16 +1,16 @@
 -- The residue of a sub-area is the stock of the one that it holds: where it holds none, that is bare land's, whose rate is 0.
-use Rattle.laws.proofs.{ℕ, _≡_, sym, ap, List}
+use Rattle.laws.proofs.{ℕ, _-_, _≡_, refl, sym, ap, Bool, true, false, cond, List, leb}
 use native.Mathlib.Nat.{add-zero, mul-zero, zero-mul}
 use Rattle.laws.specs.{sumBy}
-use Rattle.units.specs.{Tenths, Kilograms, residueOf}
+use Rattle.units.specs.{Tenths, noKilograms, residueOf}
+use Rattle.units.proofs.Sums.{kilograms}
+use Rattle.forest.specs.{Forest}
 use Rattle.schedules.specs.{Kind}
+use Rattle.rates.specs.{rateSix, shareAfter}
 use Rattle.rates.proofs.BareLand.{none-on-bare}
 use Rattle.holding.specs.{Residue, Sub, noResidue, residuesIn}
 use Rattle.holding.proofs.Residues.{by-residue}
 use Rattle.stocks.specs.{oneResidueOn, residueOn}
-
-abbrev kilograms : ℕ → Kilograms
-kilograms n = record { 0 = n }
 
 module _ (own default : List ℕ) (land : Tenths) (y : ℕ) where
   stock : Residue → ℕ
@@ -18,7 +18,11 @@ module _ (own default : List ℕ) (land : Tenths) (y : ℕ) where
 
   none-left : 0 ≡ stock noResidue
   unfolding stock oneResidueOn residueOf
-  none-left = simp (sym (none-on-bare own default Kind.Residue 0), mul-zero, zero-mul)
+  none-left = go (leb y 0)
+    where
+      go : (t : Bool) → 0 ≡ cond t noKilograms (residueOf land (rateSix own default Kind.Residue Forest.Bare 0) (shareAfter (y - 0))) .0
+      go true = refl
+      go false = simp (sym (none-on-bare own default Kind.Residue 0), mul-zero, zero-mul)
 
   one-left : (residue : Residue) → sumBy stock (residuesIn residue) ≡ stock residue
   unfolding sumBy

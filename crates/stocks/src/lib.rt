@@ -11,6 +11,9 @@ use units::Kilograms;
 fn trees_on<'a>(own: &'a [u16], default: &'a [u16], sub: Sub, year: u16) -> Kilograms
     ensures { λ r. ⌜ (r ≡ treesOn (now (own .entry)) (now (default .entry)) sub year) × (r .0 ≤ 4294967295 * 65535 * 10) ⌝ }
 {
+    if year < sub.planted {
+        return Kilograms::none();
+    }
     let land = sub.tenths;
     let forest = sub.forest;
     let age = ranges::years_from(sub.planted, year);
@@ -23,6 +26,9 @@ fn residue_on<'a>(own: &'a [u16], default: &'a [u16], sub: Sub, year: u16) -> Ki
 {
     let land = sub.tenths;
     let residue = sub.residue;
+    if year <= residue.year {
+        return Kilograms::none();
+    }
     let forest = residue.forest;
     let share = rates::share(ranges::years_from(residue.year, year));
     let rate = rates::rate_six(own, default, Kind::Residue, forest, residue.age);
@@ -35,23 +41,23 @@ pub fn sub_stock<'a>(own: &'a [u16], default: &'a [u16], sub: Sub, year: u16) ->
 {
     let trees = trees_on(own, default, sub, year);
     let residue = residue_on(own, default, sub, year);
-    Kilograms(trees.0 + residue.0)
+    trees.plus(residue)
 }
 
 pub fn area_stock<'a>(own: &'a [u16], default: &'a [u16], area: Area, year: u16) -> Kilograms
     ensures { λ r. ⌜ r ≡ areaStock (now (own .entry)) (now (default .entry)) area year ⌝ }
 {
     let n = area.count;
-    let mut sum: u64 = 0;
+    let mut sum = Kilograms::none();
     let mut i: usize = 0;
     while i < MOST_SUBS {
         if n <= i {
-            return Kilograms(sum);
+            return sum;
         }
         let sub = area.subs[i];
         let stock = sub_stock(own, default, sub, year);
-        sum += stock.0;
+        sum = sum.plus(stock);
         i += 1;
     }
-    Kilograms(sum)
+    sum
 }

@@ -1,93 +1,65 @@
--- The cells of a T line: the byte that ends it parts no fields, so that its fields are counted with it; and cells for which there is room
--- are the front of what they are read into.
-use Rattle.laws.proofs.{ℕ, suc, _-_, _≤_, _<_, _≡_, refl, sym, ap, _∙_, Bool, true, false, cond, List, [], _∷_, _++_, arith, eqb-true, ne-eqb, ltb-true, ltb-false, le-ltb, eqb, ltb, length, getD, take, drop, length-map, length-drop, sets, take-suc, take-all}
+-- A T line read into 101 places: a line that is accepted has no more cells, so that its own verdict alone decides, and its cells are the front of the places.
+use Rattle.laws.proofs.{ℕ, _-_, _≤_, _≡_, refl, ap, _∙_, List, arith, ltb-false, le-ltb, ltb, length, take, drop, length-map}
 use lib.Seq.{take-at}
-use Rattle.laws.proofs.Stores.{stored-in-front}
-use Rattle.text.specs.{extend, split}
-use Rattle.text.proofs.Fields.{split-some}
-use Rattle.text_field.specs.{Places, placesOf}
-use Rattle.text_field.proofs.Laws.{count-found}
-use Rattle.refusals.specs.{Refusal, Verdict}
-use Rattle.line_column.specs.{cellsOf, tenthsIn, tenthsAll, roomFor, filled}
-use Rattle.line.specs.{bodyOf}
-use Rattle.table_grow.specs.{lineCells}
+use Rattle.refusals.specs.{Refusal, Verdict, weighed, bufferAfter}
+use Rattle.table.specs.{longestColumn}
+use Rattle.line_column.specs.{ReadColumn, cellsOf, columnRule, tenthsIn, tenthsAll, readable, columnRead}
+use Rattle.line.specs.{fieldsOf, asColumn}
+use Rattle.line.proofs.Columns.{column-cases}
+use Rattle.table_grow.specs.{lineColumn, lineCells}
 
--- ---- how many there are
+module _ (line : List ℕ) where
+  few-cells : asColumn line ≡ Verdict.Accepted → length (cellsOf (fieldsOf line)) ≤ longestColumn
+  unfolding columnRule
+  few-cells e = ltb-false _ _ (column-cases line e 5)
 
-extend-length : (b : ℕ) (fs : List (List ℕ)) → 0 < length fs → length (extend b fs) ≡ length fs
-unfolding extend
-extend-length b [] h = absurd (omega arith)
-extend-length b (f ∷ fs) h = refl
+  cells-many : length (lineCells line) ≡ length (cellsOf (fieldsOf line))
+  unfolding lineCells tenthsAll
+  cells-many = length-map (cellsOf (fieldsOf line)) tenthsIn
 
--- a byte behind, other than a comma, adds no field
-split-behind : (s : List ℕ) (b : ℕ) → (b ≡ 44 → ⊥) → length (split (s ++ (b ∷ []))) ≡ length (split s)
-unfolding split extend
-split-behind [] b ne = simp (ne-eqb b 44 ne)
-split-behind (x ∷ s) b ne = go (eqb x 44) (split-behind s b ne)
-  where
-    go : (t : Bool) → length (split (s ++ (b ∷ []))) ≡ length (split s)
-        → length (cond t ([] ∷ split (s ++ (b ∷ []))) (extend x (split (s ++ (b ∷ []))))) ≡ length (cond t ([] ∷ split s) (extend x (split s)))
-    go true e = ap suc e
-    go false e = extend-length x (split (s ++ (b ∷ []))) (split-some (s ++ (b ∷ []))) ∙ e ∙ sym (extend-length x (split s) (split-some s))
-
--- a line whose last byte is 10
-ended : (line : List ℕ) → getD line (length line - 1) 0 ≡ 10 → line ≡ take (length line - 1) line ++ (10 ∷ [])
-ended [] e = absurd (omega arith)
-ended (b ∷ s) e =
-    let line : List ℕ = b ∷ s in
-    let k : ℕ = length line - 1 in
-    sym (take-all (suc k) line (omega arith)) ∙ take-suc line k 0 (omega arith) ∙ ap (λ (n : ℕ). take k line ++ (n ∷ [])) e
-
-body-fields : (line : List ℕ) → length (split (bodyOf line)) ≡ length (split line)
-unfolding bodyOf
-body-fields line = go (eqb (getD line (length line - 1) 0) 10) refl
-  where
-    go : (t : Bool) → eqb (getD line (length line - 1) 0) 10 ≡ t → length (split (cond t (take (length line - 1) line) line)) ≡ length (split line)
-    go true q =
-        sym (split-behind (take (length line - 1) line) 10 (λ e. omega arith))
-        ∙ ap (λ (s : List ℕ). length (split s)) (sym (ended line (eqb-true _ _ q)))
-    go false q = refl
-
-cells-many : (line : List ℕ) → length (lineCells line) ≡ length (cellsOf (split (bodyOf line)))
-unfolding lineCells tenthsAll
-cells-many line = length-map (cellsOf (split (bodyOf line))) tenthsIn
-
-pub cells-counted : (line : List ℕ) (places : Places) → places ≡ placesOf (split line) → places .count - 3 ≡ length (lineCells line)
-cells-counted line places e =
-    sym
-    (cells-many line ∙ length-drop 3 (split (bodyOf line))
-    ∙ ap (λ (n : ℕ). n - 3) (body-fields line ∙ sym (count-found line places e)))
-
--- ---- what is read of them
-
-module _ (line room : List ℕ) (read : Verdict) (e : read ≡ roomFor (split (bodyOf line)) room) where
-  room-by : read ≡ cond (ltb (length room) (length (lineCells line))) (Verdict.Refused Refusal.OutputShort) Verdict.Accepted
-  unfolding roomFor
-  room-by = e ∙ rw (cells-many line) refl
-
-  pub cells-over : (r : Refusal) → read ≡ Verdict.Refused r → length room < length (lineCells line)
-  cells-over r k = go (ltb (length room) (length (lineCells line))) refl (sym room-by ∙ k)
+  room-enough : readable (asColumn line) (fieldsOf line) longestColumn ≡ asColumn line
+  unfolding readable weighed
+  room-enough = go (asColumn line) refl
     where
-      go : (t : Bool) → ltb (length room) (length (lineCells line)) ≡ t → cond t (Verdict.Refused Refusal.OutputShort) Verdict.Accepted ≡ Verdict.Refused r
-          → length room < length (lineCells line)
-      go true q z = ltb-true (length room) (length (lineCells line)) q
-      go false q z = let y : _≡_ {A = ℕ} 0 1 = cc in absurd (omega arith)
+      go : (v : Verdict) → asColumn line ≡ v → weighed v (ltb longestColumn (length (cellsOf (fieldsOf line)))) Refusal.OutputShort ≡ v
+      go Verdict.Accepted e = simp (le-ltb _ _ (few-cells e))
+      go (Verdict.Refused r) e = refl
 
-  pub cells-within : read ≡ Verdict.Accepted → length (lineCells line) ≤ length room
-  cells-within k = go (ltb (length room) (length (lineCells line))) refl (sym room-by ∙ k)
-    where
-      go : (t : Bool) → ltb (length room) (length (lineCells line)) ≡ t → cond t (Verdict.Refused Refusal.OutputShort) Verdict.Accepted ≡ Verdict.Accepted
-          → length (lineCells line) ≤ length room
-      go true q z = let y : _≡_ {A = ℕ} 0 1 = cc in absurd (omega arith)
-      go false q z = ltb-false (length room) (length (lineCells line)) q
+-- what is read of a line into 101 places: the answer, and what they then hold
+pub record Room (line room kept : List ℕ) (read : ReadColumn) : Type 0 where
+  pub places : length room ≡ longestColumn
+  pub told : read ≡ columnRead (readable (asColumn line) (fieldsOf line) (length room)) (fieldsOf line)
+  pub left : kept ≡ bufferAfter (readable (asColumn line) (fieldsOf line) (length room)) (lineCells line) room
 
-  filled-is : length (lineCells line) ≤ length room → filled (split (bodyOf line)) room ≡ sets room 0 (lineCells line)
-  unfolding filled lineCells
-  filled-is h = simp (le-ltb (length room) (length (cellsOf (split (bodyOf line)))) (omega (arith, cells-many line)))
+module _ {line room kept : List ℕ} {read : ReadColumn} (r : Room line room kept read) where
+  by-line : read ≡ columnRead (asColumn line) (fieldsOf line)
+  by-line =
+      r .told ∙ ap (λ (n : ℕ). columnRead (readable (asColumn line) (fieldsOf line) n) (fieldsOf line)) (r .places)
+      ∙ ap (λ (v : Verdict). columnRead v (fieldsOf line)) (room-enough line)
 
-  pub cells-read : (kept : List ℕ) (n : ℕ) → kept ≡ filled (split (bodyOf line)) room → n ≡ length (lineCells line) → read ≡ Verdict.Accepted
-      → take (n - 0) kept ≡ lineCells line
-  cells-read kept n f q k =
-      let h = cells-within k in
-      ap (take (n - 0)) (f ∙ filled-is h ∙ stored-in-front (lineCells line) room h)
-      ∙ take-at (lineCells line) (drop (length (lineCells line)) room) (n - 0) (omega arith)
+  verdict-of : (v : Verdict) → columnRead v (fieldsOf line) .verdict ≡ v
+  verdict-of Verdict.Accepted = refl
+  verdict-of (Verdict.Refused r) = refl
+
+  pub read-verdict : read .verdict ≡ asColumn line
+  read-verdict = ap (λ (x : ReadColumn). x .verdict) by-line ∙ verdict-of (asColumn line)
+
+  module _ (clear : asColumn line ≡ Verdict.Accepted) where
+    whole : read ≡ columnRead Verdict.Accepted (fieldsOf line)
+    whole = by-line ∙ ap (λ (v : Verdict). columnRead v (fieldsOf line)) clear
+
+    pub read-number : read .column ≡ lineColumn line
+    unfolding lineColumn
+    read-number = ap (λ (x : ReadColumn). x .column) whole
+
+    pub read-few : read .count ≤ longestColumn
+    read-few = omega (arith, ap (λ (x : ReadColumn). x .count) whole, few-cells line clear)
+
+    pub read-cells : take (read .count - 0) kept ≡ lineCells line
+    unfolding bufferAfter
+    read-cells =
+        ap (take (read .count - 0))
+        (r .left ∙ ap (λ (n : ℕ). bufferAfter (readable (asColumn line) (fieldsOf line) n) (lineCells line) room) (r .places)
+        ∙ ap (λ (v : Verdict). bufferAfter v (lineCells line) room) (room-enough line ∙ clear))
+        ∙ take-at (lineCells line) (drop (length (lineCells line)) room) (read .count - 0)
+        (omega (arith, cells-many line, ap (λ (x : ReadColumn). x .count) whole))

@@ -1,42 +1,39 @@
--- What a verdict makes of the longer table: over 101 cells it is 6 whatever else holds, an extension refused is refused, and one that is
--- not is refused by 33 where areas stand.
-use Rattle.laws.proofs.{ℕ, _≤_, _<_, _≡_, refl, sym, _∙_, Bool, true, false, List, [], _∷_, lt-ltb, le-leb, lt-leb, leb, length, replicate}
-use Rattle.refusals.specs.{Refusal, Verdict, Case, _⇒_, weighed, weighAll, smallest, Written, written, bufferAfter}
-use Rattle.refusals.proofs.Smallest.{turned-stands}
+-- What a verdict makes of the longer table: a line that is refused as a T line is refused, and so is an extension; one that is not is refused by
+-- 33 where areas stand.
+use Rattle.laws.proofs.{ℕ, _≤_, _<_, _≡_, refl, sym, _∙_, List, [], le-leb, lt-leb, leb, length, replicate}
+use Rattle.refusals.specs.{Refusal, Verdict, weighed, Written, written, bufferAfter}
 use Rattle.table.specs.{longestTable}
 use Rattle.table_extend.specs.{begun, longer, extensible}
-use Rattle.table_grow.specs.{Grown, lineCells, longerBy, growable, grownOf, grownBy}
+use Rattle.line_entry.specs.{Entry, Parsed}
+use Rattle.line.specs.{entryOf, asColumn}
+use Rattle.line.proofs.Columns.{column-taken}
+use Rattle.table_grow.specs.{Grown, lineColumn, lineCells, longerBy, growable, grownOf, grownBy}
 
 -- a refusal leaves no table, whatever the longer one would be
 turned-is : (v : Verdict) (r : Refusal) (numbers : List ℕ) → v ≡ Verdict.Refused r → grownOf (Verdict.Refused r) [] ≡ grownOf v numbers
 unfolding bufferAfter
 turned-is v r numbers e = rw e refl
 
--- ---- over 101 cells
+-- ---- a line that is no T line, and one that was read
 
-fourth-applies : (a b c : Bool) (rest : List Case) → smallest (a ⇒ Refusal.TableColumn ∷ b ⇒ Refusal.TableColumn ∷ c ⇒ Refusal.TableColumn ∷ true ⇒ Refusal.TableColumn ∷ rest) ≡ Verdict.Refused Refusal.TableColumn
-unfolding smallest weighAll weighed
-fourth-applies true b c rest = turned-stands Refusal.TableColumn rest
-fourth-applies false true c rest = turned-stands Refusal.TableColumn rest
-fourth-applies false false true rest = turned-stands Refusal.TableColumn rest
-fourth-applies false false false rest = turned-stands Refusal.TableColumn rest
-
-over-long : (table : List ℕ) (column : ℕ) (cells : List ℕ) (room : ℕ) → 101 < length cells → extensible table column cells room ≡ Verdict.Refused Refusal.TableColumn
-unfolding extensible
-over-long table column cells room h = simp (lt-ltb 101 (length cells) h) (fourth-applies _ _ _ _)
-
-pub grown-over : (own : List ℕ) (areas : ℕ) (line : List ℕ) (column : ℕ) → 101 < length (lineCells line)
-    → grownOf (Verdict.Refused Refusal.TableColumn) [] ≡ grownBy own areas line column
+pub grown-no-column : (own : List ℕ) (areas : ℕ) (line : List ℕ) (r : Refusal) → asColumn line ≡ Verdict.Refused r
+    → grownOf (Verdict.Refused r) [] ≡ grownBy own areas line
 unfolding grownBy growable weighed
-grown-over own areas line column h = turned-is _ Refusal.TableColumn _ (rw (over-long (begun own) column (lineCells line) longestTable h) refl)
+grown-no-column own areas line r e = turned-is _ r _ (rw e refl)
 
--- ---- the cells read
-
-pub grown-read : (own : List ℕ) (areas : ℕ) (line : List ℕ) (column : ℕ) (cells : List ℕ) (grown : Grown) → cells ≡ lineCells line
+pub grown-read : (own : List ℕ) (areas : ℕ) (line : List ℕ) (column : ℕ) (cells : List ℕ) (grown : Grown)
+    → asColumn line ≡ Verdict.Accepted → column ≡ lineColumn line → cells ≡ lineCells line
     → grown ≡ grownOf (weighed (extensible (begun own) column cells longestTable) (leb 1 areas) Refusal.TableAfterArea) (longer (begun own) column cells)
-    → grown ≡ grownBy own areas line column
+    → grown ≡ grownBy own areas line
 unfolding grownBy growable longerBy
-grown-read own areas line column cells grown e g = rw (sym e) g
+grown-read own areas line column cells grown v n e g = rw (v, sym n, sym e) g
+
+-- a line that is read as a column grows the table by it
+pub column-grows : (own : List ℕ) (areas : ℕ) (line : List ℕ) (column : ℕ) → entryOf line ≡ Parsed.Taken (Entry.Column column)
+    → (growable own areas line ≡ weighed (extensible (begun own) column (lineCells line) longestTable) (leb 1 areas) Refusal.TableAfterArea)
+    × (longerBy own line ≡ longer (begun own) column (lineCells line))
+unfolding growable longerBy lineColumn
+column-grows own areas line column e = let taken = column-taken line column e in (rw (taken .0, taken .1) refl, rw (taken .1) refl)
 
 -- ---- an extension
 

@@ -1,24 +1,33 @@
 -- "T,kind,type,cells: .. It extends the table; refused (6) where its column or a later one already has cells." "33 T once an area stands."
 use Rattle.laws.specs.{ℕ, List, leb, length, replicate}
-use Rattle.text.specs.{split}
 use Rattle.refusals.specs.{Verdict, weighed, bufferAfter, Refusal}
 use Rattle.table.specs.{longestTable}
 use Rattle.table_extend.specs.{begun, longer, extensible}
-use Rattle.line_column.specs.{cellsOf, tenthsAll}
-use Rattle.line.specs.{bodyOf}
+use Rattle.line_column.specs.{cellsOf, columnOf, tenthsAll}
+use Rattle.line.specs.{fieldsOf, asColumn}
 use Rattle.table_grow.specs.declared.Grown.{Grown}
+
+-- the number of the column that a T line names
+unfoldable pub lineColumn : List ℕ → ℕ
+lineColumn line = columnOf (fieldsOf line)
 
 -- the cells of a T line, in tenths
 unfoldable pub lineCells : List ℕ → List ℕ
-lineCells line = tenthsAll (cellsOf (split (bodyOf line)))
+lineCells line = tenthsAll (cellsOf (fieldsOf line))
 
 -- the table with the line's column: ten lengths and the cells
-unfoldable pub longerBy : List ℕ → List ℕ → ℕ → List ℕ
-longerBy own line column = longer (begun own) column (lineCells line)
+unfoldable pub longerBy : List ℕ → List ℕ → List ℕ
+longerBy own line = longer (begun own) (lineColumn line) (lineCells line)
 
--- 6, or 33 where areas stand; there is room for any table
-unfoldable pub growable : List ℕ → ℕ → List ℕ → ℕ → Verdict
-growable own areas line column = weighed (extensible (begun own) column (lineCells line) longestTable) (leb 1 areas) Refusal.TableAfterArea
+-- a verdict, and where it accepts the one behind it
+abbrev pub andThen : Verdict → Verdict → Verdict
+andThen Verdict.Accepted next = next
+andThen (Verdict.Refused refusal) next = Verdict.Refused refusal
+
+-- what refuses the line as a T line, at most 6; then 6 by the table; then 33 where areas stand; there is room for any table
+unfoldable pub growable : List ℕ → ℕ → List ℕ → Verdict
+growable own areas line =
+    weighed (andThen (asColumn line) (extensible (begun own) (lineColumn line) (lineCells line) longestTable)) (leb 1 areas) Refusal.TableAfterArea
 
 abbrev pub countAfter : Verdict → List ℕ → ℕ
 countAfter Verdict.Accepted numbers = length numbers
@@ -33,5 +42,5 @@ grownOf verdict numbers =
       numbers = bufferAfter verdict numbers (replicate longestTable 0);
     }
 
-unfoldable pub grownBy : List ℕ → ℕ → List ℕ → ℕ → Grown
-grownBy own areas line column = grownOf (growable own areas line column) (longerBy own line column)
+unfoldable pub grownBy : List ℕ → ℕ → List ℕ → Grown
+grownBy own areas line = grownOf (growable own areas line) (longerBy own line)

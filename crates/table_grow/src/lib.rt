@@ -2,11 +2,10 @@
 ghost use mathlib.Core.Path.{_≡_};
 ghost use mathlib.Core.List.{[]};
 ghost use lib.Dec.{leb};
-ghost use lib.ListN.{length};
 ghost use Rattle.refusals.specs.{weighed};
 ghost use Rattle.table.specs.{longestTable};
 ghost use Rattle.table_extend.specs.{begun, longer, extensible};
-ghost use Rattle.table_grow.specs.{lineCells, grownOf, grownBy};
+ghost use Rattle.table_grow.specs.{grownOf, grownBy};
 use refusals::Refusal;
 use refusals::Verdict;
 use refusals::Written;
@@ -31,18 +30,6 @@ fn turned(refusal: Refusal) -> Grown
     }
 }
 
-// How many cells a T line has: its fields behind the type.
-fn cell_count(line: &[u8]) -> usize
-    ensures { λ r. ⌜ r ≡ length (lineCells (now (line .entry))) ⌝ }
-{
-    let places = text_field::scan(line);
-    let count = places.count;
-    if count <= 3 {
-        return 0;
-    }
-    count - 3
-}
-
 // The table longer by a column of given cells.
 fn grow_by(own: &[u16], areas: usize, column: usize, cells: &[u16]) -> Grown
     ensures { λ r. ⌜ r ≡ grownOf (weighed (extensible (begun (now (own .entry))) column (now (cells .entry)) longestTable) (leb 1 areas) Refusal.TableAfterArea) (longer (begun (now (own .entry))) column (now (cells .entry))) ⌝ }
@@ -64,15 +51,17 @@ fn grow_by(own: &[u16], areas: usize, column: usize, cells: &[u16]) -> Grown
     }
 }
 
-// The participant's table after a T line, by how many areas stand and the line's column.
-pub fn grow(own: &[u16], areas: usize, line: &[u8], column: usize) -> Grown
-    ensures { λ r. ⌜ r ≡ grownBy (now (own .entry)) areas (now (line .entry)) column ⌝ }
+// The participant's table after a T line, by how many areas stand.
+pub fn grow(own: &[u16], areas: usize, line: &[u8]) -> Grown
+    ensures { λ r. ⌜ r ≡ grownBy (now (own .entry)) areas (now (line .entry)) ⌝ }
 {
-    let count = cell_count(line);
     let mut cells = [0u16; MOST_CELLS];
-    let read = line::read_cells(line, &mut cells);
-    match read {
-        Verdict::Refused(_) => turned(Refusal::TableColumn),
+    let read = line::read_column(line, &mut cells);
+    let verdict = read.verdict;
+    let column = read.column;
+    let count = read.count;
+    match verdict {
+        Verdict::Refused(refusal) => turned(refusal),
         Verdict::Accepted => grow_by(own, areas, column, &cells[0..count]),
     }
 }

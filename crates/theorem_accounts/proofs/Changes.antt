@@ -1,10 +1,10 @@
 -- A step reports for an area just the change that the ledger gives: one if it is an accepted return of the area, whose stock and sub-areas
 -- are the row's, and otherwise none.
-use Rattle.laws.proofs.{ℕ, Bool, true, false, cond, _&&_, _≡_, refl, sym, ap, _∙_, List, [], _∷_, _++_, append-nil, arith, eqb-true, eqb, length}
+use Rattle.laws.proofs.{ℕ, Bool, true, false, cond, _&&_, _≡_, refl, sym, ap, subst, _∙_, List, [], _∷_, _++_, append-nil, arith, eqb-true, eqb, length}
 use mathlib.Core.Option.{Option, none, some}
 use lib.IntN.{ℤ}
-use Rattle.refusals.specs.{Verdict, smallest, Refusal}
-use Rattle.refusals.proofs.Laws.{ruled-out}
+use Rattle.refusals.specs.{Verdict, smallest}
+use Rattle.refusals.proofs.Laws.{RuledOut, ruled-out}
 use Rattle.units.specs.{value}
 use Rattle.schedules.specs.{schedule6}
 use Rattle.table.specs.{isTable}
@@ -20,11 +20,13 @@ use Rattle.step_file.specs.{fileCases, filedArea, returnOf, filed}
 use Rattle.step_file.specs.Filing as Filing
 use Rattle.step_withdraw.specs.{withdrawn}
 use Rattle.step.specs.{acted, applied, stepped}
+use Rattle.step.proofs.Entered.{step-is, step-turned}
 use Rattle.theorem_ledger.specs.{Row, rowNumber}
 use Rattle.theorem_accounts.specs.{Reported, reportedWith, under, isAccepted, changeBy, changeFor, isReturn, isReturnOf}
 use Rattle.theorem_accounts.proofs.Keyed.{standing-here}
 use Rattle.theorem_accounts.proofs.Alike.{Alike, withReturn, withWithdrawal, change-alike}
 use Rattle.theorem_accounts.proofs.Agreed.{areaNumber, Matched, Agreed}
+use Rattle.theorem_accounts.proofs.Numbers.{bearing, same-number}
 use Rattle.theorem_accounts.proofs.Entries.{not-false}
 
 -- the row of an area that stands
@@ -79,9 +81,12 @@ module _ (own : List ℕ) (n : ℕ) (holding : Holding) (rows : List Row) (repor
         go (some area) e none u k = absurd k
         go (some area) e (some row) u k = record { row = row; listed = u; alike = rw (let s : areaAt holding (Found.At i) ≡ area = cc in s) k }
 
-    filed-tells : (m last : ℕ) → Tells (filed own schedule6 (lookedUp holding m) m last) (cond (eqb m n) (changeBy own last (under rowNumber n rows)) []) (eqb m n)
+    filed-tells : (m last : ℕ) → Tells (filed own schedule6 (lookedUp holding m) last) (cond (eqb m n) (changeBy own last (under rowNumber n rows)) []) (eqb m n)
     unfolding filed returnOf fileCases areaCases answered reportedWith
-    filed-tells m last = go (smallest (fileCases m last found area)) refl
+    filed-tells m last =
+        subst (λ (o : Outcome). Tells o (cond (eqb m n) (changeBy own last (under rowNumber n rows)) []) (eqb m n))
+        (same-number holding m (fileCases m last found area) (λ (k : ℕ). accepted (bearing k (returnOf own schedule6 area last)) found (holding .count) next) stands)
+        (go (smallest (fileCases m last found area)) refl)
       where
         found : Found
         found = findArea holding m
@@ -91,6 +96,9 @@ module _ (own : List ℕ) (n : ℕ) (holding : Holding) (rows : List Row) (repor
 
         next : Area
         next = filedArea own schedule6 area last
+
+        stands : RuledOut (fileCases m last found area) → known found ≡ true
+        stands out = not-false (known found) (out 3)
 
         rowed : (row : Row) (q : Option Row) → q ≡ some row → Alike area reported row
             → (reported .changes ++ (value (Filing.changeOf own schedule6 area last) ∷ []) ≡ reported .changes ++ changeBy own last q)
@@ -107,25 +115,28 @@ module _ (own : List ℕ) (n : ℕ) (holding : Holding) (rows : List Row) (repor
             rowed (p .row) (under rowNumber n rows) (p .listed) (p .alike)
 
         go : (v : Verdict) → smallest (fileCases m last found area) ≡ v
-            → Tells (answered v (accepted (returnOf own schedule6 area m last) found (holding .count) next))
+            → Tells (answered v (accepted (bearing m (returnOf own schedule6 area last)) found (holding .count) next))
             (cond (eqb m n) (changeBy own last (under rowNumber n rows)) []) (eqb m n)
         go (Verdict.Refused refusal) v = turned-tells refusal (cond (eqb m n) (changeBy own last (under rowNumber n rows)) []) (eqb m n)
-        go Verdict.Accepted v = at (eqb m n) refl (not-false (known found) (ruled-out (fileCases m last found area) v 3))
+        go Verdict.Accepted v = at (eqb m n) refl (stands (ruled-out (fileCases m last found area) v))
 
     acted-tells : (area : ℕ) (act : Act)
-        → Tells (acted own schedule6 (lookedUp holding area) area act) (changeFor own n rows area act) (isReturn act && eqb area n)
+        → Tells (acted own schedule6 (lookedUp holding area) act) (changeFor own n rows area act) (isReturn act && eqb area n)
     unfolding opened added cleared planted withdrawn
     acted-tells area (Act.Open opening) = quiet _ Report.Nothing _ _ _ quietly
     acted-tells area (Act.Add sub land forest year) = quiet _ Report.Nothing _ _ _ quietly
     acted-tells area (Act.Clear sub year) = quiet _ Report.Nothing _ _ _ quietly
     acted-tells area (Act.Plant sub forest year) = quiet _ Report.Nothing _ _ _ quietly
     acted-tells area (Act.File last) = filed-tells area last
-    acted-tells area Act.Withdraw = quiet _ (Report.Withdrawal area _) _ _ _ (withdrawn-quietly area _)
+    acted-tells area Act.Withdraw = quiet _ (Report.Withdrawal _ _) _ _ _ (withdrawn-quietly _ _)
 
     pub entry-tells : (e : AreaAct) → Tells (stepped own holding e) (changeFor own n rows (e .area) (e .act)) (isReturnOf n e)
-    unfolding stepped applied
-    entry-tells e = go (isTable own)
+    unfolding applied
+    entry-tells e = go (isTable own) refl
       where
-        go : (t : Bool) → Tells (cond t (applied own schedule6 holding e) (turnedBack Refusal.TableColumn)) (changeFor own n rows (e .area) (e .act)) (isReturnOf n e)
-        go true = acted-tells (e .area) (e .act)
-        go false = turned-tells Refusal.TableColumn (changeFor own n rows (e .area) (e .act)) (isReturnOf n e)
+        Told : Outcome → Type 0
+        Told outcome = Tells outcome (changeFor own n rows (e .area) (e .act)) (isReturnOf n e)
+
+        go : (t : Bool) → isTable own ≡ t → Told (stepped own holding e)
+        go true table = subst Told (step-is own holding e table) (acted-tells (e .area) (e .act))
+        go false table = step-turned own holding e Told table (λ refusal few. turned-tells refusal (changeFor own n rows (e .area) (e .act)) (isReturnOf n e))

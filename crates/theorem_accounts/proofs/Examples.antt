@@ -8,7 +8,7 @@ use Rattle.forest.specs.{lettersOf, Forest}
 use Rattle.schedules.specs.{placeSix, schedule6}
 use Rattle.text.specs.{widthTo}
 use Rattle.table_parts.specs.{columnNumber, lengthOf}
-use Rattle.table.specs.{hasColumns, isTable}
+use Rattle.table.specs.{hasColumns, isTable, judged}
 use Rattle.table_lent.specs.{ownColumn}
 use Rattle.rates.specs.{consulted, cellAt, rateSix, shareAfter}
 use Rattle.stocks.specs.{treesOn, oneResidueOn, residueOn, subStock, areaStock}
@@ -69,5 +69,5 @@ AllHold [] = Unit
 AllHold (e ∷ es) = (reportedFrom (e .area) nothingReported (outcomesFrom (e .table) emptyHolding (e .entries)) ≡ e .reported) × AllHold es
 
 pub examples-hold : AllHold examples
-unfolding allOf sumOf eachAtMost sumBy weighed weighAll smallest treesOf residueOf tonnes value changeBetween placeSix schedule6 hasColumns isTable widthTo lettersOf columnNumber lengthOf ownColumn consulted cellAt rateSix shareAfter treesOn residuesIn oneResidueOn residueOn subStock areaStock placeFrom findArea findSub areaAt subAt withSub yearsCarried amountsCarried fieldsCarried answered placed areaCases openCases opened addCases addedArea added clearCases clearedSub clearedArea cleared plantCases plantedSub plantedArea planted fileCases changeOf filedArea returnOf filed withdrawCases withdrawnArea withdrawn applied stepped outcomesFrom reportedWith reportedFrom
+unfolding allOf sumOf eachAtMost sumBy weighed weighAll smallest treesOf residueOf tonnes value changeBetween placeSix schedule6 hasColumns isTable judged widthTo lettersOf columnNumber lengthOf ownColumn consulted cellAt rateSix shareAfter treesOn residuesIn oneResidueOn residueOn subStock areaStock placeFrom findArea findSub areaAt subAt withSub yearsCarried amountsCarried fieldsCarried answered placed areaCases openCases opened addCases addedArea added clearCases clearedSub clearedArea cleared plantCases plantedSub plantedArea planted fileCases changeOf filedArea returnOf filed withdrawCases withdrawnArea withdrawn applied stepped outcomesFrom reportedWith reportedFrom
 examples-hold = (refl, (refl, tt))

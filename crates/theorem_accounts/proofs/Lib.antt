@@ -3,6 +3,7 @@ pub mod Running
 pub mod Units
 pub mod Alike
 pub mod Agreed
+pub mod Numbers
 pub mod Entries
 pub mod Changes
 pub mod Accounts

@@ -1,14 +1,14 @@
 -- "A refused step counts as not sent": it leaves the holding as it was, so the accepted entries alone come to the same holding and are
 -- answered the same.
-use Rattle.laws.proofs.{ℕ, Bool, true, false, cond, _≡_, refl, sym, ap, _∙_, List, [], _∷_, map, arith}
+use Rattle.laws.proofs.{ℕ, Bool, true, false, cond, _≡_, refl, sym, ap, subst, _∙_, List, [], _∷_, map, arith}
 use Rattle.laws.specs.{keep}
-use Rattle.refusals.specs.{Verdict, Refusal}
+use Rattle.refusals.specs.{Verdict}
 use Rattle.schedules.specs.{schedule6}
 use Rattle.table.specs.{isTable}
 use Rattle.line_entry.specs.{Act, AreaAct}
 use Rattle.holding.specs.{Area, Holding, Found}
 use Rattle.holding_look.specs.{Looked}
-use Rattle.step_outcome.specs.{Report, Outcome, accepted, answered, turnedBack, placed}
+use Rattle.step_outcome.specs.{Report, Outcome, accepted, answered, placed}
 use Rattle.step_open.specs.{opened}
 use Rattle.step_add.specs.{added}
 use Rattle.step_clear.specs.{cleared}
@@ -16,6 +16,7 @@ use Rattle.step_plant.specs.{planted}
 use Rattle.step_file.specs.{filed}
 use Rattle.step_withdraw.specs.{withdrawn}
 use Rattle.step.specs.{acted, applied, stepped, holdingFrom, outcomesFrom}
+use Rattle.step.proofs.Entered.{step-is, step-turned}
 use Rattle.theorem_accounts.specs.{isAccepted, fed, acceptedOf}
 
 -- an accepted step is told by its outcome
@@ -31,22 +32,22 @@ module _ (own : List ℕ) (holding : Holding) where
   answered-refused (Verdict.Refused refusal) report place count area e = refl
   answered-refused Verdict.Accepted report place count area e = let z : _≡_ {A = ℕ} 0 1 = cc in absurd (omega arith)
 
-  acted-refused : (looked : Looked) (area : ℕ) (act : Act) → Unplaced (acted own schedule6 looked area act)
+  acted-refused : (looked : Looked) (act : Act) → Unplaced (acted own schedule6 looked act)
   unfolding opened added cleared planted filed withdrawn
-  acted-refused looked area (Act.Open opening) = answered-refused _ _ _ _ _
-  acted-refused looked area (Act.Add sub land forest year) = answered-refused _ _ _ _ _
-  acted-refused looked area (Act.Clear sub year) = answered-refused _ _ _ _ _
-  acted-refused looked area (Act.Plant sub forest year) = answered-refused _ _ _ _ _
-  acted-refused looked area (Act.File last) = answered-refused _ _ _ _ _
-  acted-refused looked area Act.Withdraw = answered-refused _ _ _ _ _
+  acted-refused looked (Act.Open opening) = answered-refused _ _ _ _ _
+  acted-refused looked (Act.Add sub land forest year) = answered-refused _ _ _ _ _
+  acted-refused looked (Act.Clear sub year) = answered-refused _ _ _ _ _
+  acted-refused looked (Act.Plant sub forest year) = answered-refused _ _ _ _ _
+  acted-refused looked (Act.File last) = answered-refused _ _ _ _ _
+  acted-refused looked Act.Withdraw = answered-refused _ _ _ _ _
 
   pub refused-unchanged : (e : AreaAct) → taken (stepped own holding e) ≡ false → placed holding (stepped own holding e) ≡ holding
-  unfolding stepped applied Unplaced placed
-  refused-unchanged e = go (isTable own)
+  unfolding applied Unplaced placed
+  refused-unchanged e = go (isTable own) refl
     where
-      go : (t : Bool) → Unplaced (cond t (applied own schedule6 holding e) (turnedBack Refusal.TableColumn))
-      go true = acted-refused _ (e .area) (e .act)
-      go false = λ q. refl
+      go : (t : Bool) → isTable own ≡ t → Unplaced (stepped own holding e)
+      go true table = subst Unplaced (step-is own holding e table) (acted-refused _ (e .act))
+      go false table = step-turned own holding e Unplaced table (λ refusal few q. refl)
 
 -- what a list of entries comes to, and what its accepted entries alone come to
 pub record SameSent (own : List ℕ) (holding : Holding) (es sent : List AreaAct) : Type 0 where

@@ -1,20 +1,21 @@
 -- Demand 3 for every row of the ledger: an accepted opening finds its number unused, so no two rows bear the same number, and each row is the
 -- one under its number.
-use Rattle.laws.proofs.{ℕ, _+_, Bool, true, false, cond, _≡_, refl, _∙_, List, [], _∷_, arith}
+use Rattle.laws.proofs.{ℕ, _+_, Bool, true, false, _≡_, refl, subst, _∙_, List, [], _∷_, arith}
 use mathlib.Core.List.{List·Memᴰ}
 use mathlib.Core.Option.{Option, none, some}
 use Rattle.laws.proofs.Distinct.{distinct-more}
 use Rattle.laws.specs.{distinct}
-use Rattle.refusals.specs.{Verdict, smallest, Refusal}
+use Rattle.refusals.specs.{Verdict, smallest}
 use Rattle.refusals.proofs.Laws.{ruled-out}
 use Rattle.table.specs.{isTable}
 use Rattle.line_entry.specs.{Act, AreaAct, on}
 use Rattle.holding.specs.{Area, Holding, Found, areasOf, openedArea, emptyHolding, findArea}
 use Rattle.holding_look.specs.{known, lookedUp}
-use Rattle.step_outcome.specs.{Outcome, accepted, answered, turnedBack, placed, Report}
+use Rattle.step_outcome.specs.{Outcome, accepted, answered, placed, Report}
 use Rattle.step_open.specs.{openCases}
 use Rattle.step_open.specs.Opening as Opening
 use Rattle.step.specs.{applied, stepped, outcomesFrom}
+use Rattle.step.proofs.Entered.{step-is, step-turned}
 use Rattle.theorem_ledger.specs.{Row, rowNumber, opened, entered, notedStep, noted}
 use Rattle.theorem_accounts.specs.{Reported, nothingReported, reportedWith, under, isAccepted, fed, holdingAfter, stepsOf, ledgerAfter, reportedFor, Agrees, AccountsAgree}
 use Rattle.theorem_accounts.proofs.Keyed.{standing-none}
@@ -26,22 +27,26 @@ use Rattle.theorem_accounts.proofs.Accounts.{agreed-at-first, accounts-
 module _ (own : List ℕ) where
   -- an accepted opening finds no area of its number
   unused : (holding : Holding) (m year : ℕ) → isAccepted (stepped own holding (on m (Act.Open year)) .verdict) ≡ true → findArea holding m ≡ Found.Nowhere
-  unfolding stepped applied Opening.opened answered openCases
-  unused holding m year = go (isTable own)
+  unfolding applied Opening.opened answered openCases
+  unused holding m year = go (isTable own) refl
     where
       nowhere : (found : Found) → known found ≡ false → found ≡ Found.Nowhere
       nowhere (Found.At i) e = let z : _≡_ {A = ℕ} 0 1 = cc in absurd (omega arith)
       nowhere Found.Nowhere e = refl
 
-      judged : (v : Verdict) → smallest (openCases (lookedUp holding m) m year) ≡ v
+      judged : (v : Verdict) → smallest (openCases (lookedUp holding m) year) ≡ v
           → isAccepted (answered v (accepted Report.Nothing (Found.At (holding .count)) (holding .count + 1) (openedArea m year)) .verdict) ≡ true
           → findArea holding m ≡ Found.Nowhere
       judged (Verdict.Refused refusal) v e = let z : _≡_ {A = ℕ} 0 1 = cc in absurd (omega arith)
-      judged Verdict.Accepted v e = nowhere (findArea holding m) (ruled-out (openCases (lookedUp holding m) m year) v 3)
+      judged Verdict.Accepted v e = nowhere (findArea holding m) (ruled-out (openCases (lookedUp holding m) year) v 3)
 
-      go : (t : Bool) → isAccepted (cond t (Opening.opened (lookedUp holding m) m year) (turnedBack Refusal.TableColumn) .verdict) ≡ true → findArea holding m ≡ Found.Nowhere
-      go true e = judged (smallest (openCases (lookedUp holding m) m year)) refl e
-      go false e = let z : _≡_ {A = ℕ} 0 1 = cc in absurd (omega arith)
+      Unused : Outcome → Type 0
+      Unused outcome = isAccepted (outcome .verdict) ≡ true → findArea holding m ≡ Found.Nowhere
+
+      go : (t : Bool) → isTable own ≡ t → Unused (stepped own holding (on m (Act.Open year)))
+      go true table = subst Unused (step-is own holding (on m (Act.Open year)) table) (judged (smallest (openCases (lookedUp holding m) year)) refl)
+      go false table =
+          step-turned own holding (on m (Act.Open year)) Unused table (λ refusal few e. let z : _≡_ {A = ℕ} 0 1 = cc in absurd (omega arith))
 
   module _ (holding : Holding) (rows : List Row) (reported : ℕ → Reported) (agreed : (n : ℕ) → Agreed n holding rows (reported n)) where
     unlisted : (m : ℕ) → findArea holding m ≡ Found.Nowhere → under rowNumber m rows ≡ none

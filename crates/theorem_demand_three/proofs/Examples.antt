@@ -7,7 +7,7 @@ use Rattle.units.specs.{treesOf, residueOf, tonnes, value, changeBetween}
 use Rattle.forest.specs.{lettersOf, beside, letterNames, regionNames, named, Forest}
 use Rattle.schedules.specs.{placeSix, schedule6}
 use Rattle.table_parts.specs.{columnNumber, lengthOf}
-use Rattle.table.specs.{hasColumns, isTable}
+use Rattle.table.specs.{hasColumns, isTable, judged}
 use Rattle.table_lent.specs.{ownColumn}
 use Rattle.rates.specs.{consulted, cellAt, rateSix, shareAfter}
 use Rattle.text.specs.{widthTo, digitsIn, digits}
@@ -80,5 +80,5 @@ pub record Printed : Type 0 where
   pub statement : statementOf (holdingAfter table steps) ≡ joined pieces
 
 pub printed-case : Printed
-unfolding allOf some every distinct sumOf eachAtMost sumBy weighed weighAll smallest written bufferAfter treesOf residueOf tonnes value changeBetween lettersOf beside letterNames regionNames named placeSix schedule6 hasColumns isTable columnNumber lengthOf ownColumn consulted cellAt rateSix shareAfter digitsIn digits append more headed numberIn treesOn residuesIn oneResidueOn residueOn subStock areaStock placeFrom findArea findSub areaAt subAt withSub yearsCarried amountsCarried fieldsCarried residueCarried subCarried areaCarried carried answered placed areaCases openCases opened addCases addedArea added clearCases clearedSub clearedArea cleared plantCases plantedSub plantedArea planted fileCases changeOf filedArea returnOf filed withdrawCases withdrawnArea withdrawn applied stepped reportedWith reportedFrom startText numberText typeText joined texts residueText residuesText subText yearsText amountsText areaText statementOf writable widthTo fieldOf fieldBy numberBefore numberAt typeBefore typeAt startAt lineAt residueAt Reading.subLineAt itemsFrom subsFrom subsAt yearsAt amountsAt Reading.areaLineAt areasFrom areasAt holdingAt acceptable readOf resultOf holdingFrom outcomesFrom
+unfolding allOf some every distinct sumOf eachAtMost sumBy weighed weighAll smallest written bufferAfter treesOf residueOf tonnes value changeBetween lettersOf beside letterNames regionNames named placeSix schedule6 hasColumns isTable judged columnNumber lengthOf ownColumn consulted cellAt rateSix shareAfter digitsIn digits append more headed numberIn treesOn residuesIn oneResidueOn residueOn subStock areaStock placeFrom findArea findSub areaAt subAt withSub yearsCarried amountsCarried fieldsCarried residueCarried subCarried areaCarried carried answered placed areaCases openCases opened addCases addedArea added clearCases clearedSub clearedArea cleared plantCases plantedSub plantedArea planted fileCases changeOf filedArea returnOf filed withdrawCases withdrawnArea withdrawn applied stepped reportedWith reportedFrom startText numberText typeText joined texts residueText residuesText subText yearsText amountsText areaText statementOf writable widthTo fieldOf fieldBy numberBefore numberAt typeBefore typeAt startAt lineAt residueAt Reading.subLineAt itemsFrom subsFrom subsAt yearsAt amountsAt Reading.areaLineAt areasFrom areasAt holdingAt acceptable readOf resultOf holdingFrom outcomesFrom
 printed-case = record { verdicts = refl; reported = refl; statement = refl }

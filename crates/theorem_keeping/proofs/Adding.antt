@@ -65,6 +65,6 @@ module _ (own : List ℕ) (table : isTable own ≡ true) where
           keeps = added-area area (newSub sub land forest planted) (out 6) room good;
         }
 
-    pub added-keeps : (holding : Holding) → AreasKept holding → AreasKept (placed holding (added own schedule6 (lookedUp holding number) number (newSub sub land forest planted)))
+    pub added-keeps : (holding : Holding) → AreasKept holding → AreasKept (placed holding (added own schedule6 (lookedUp holding number) (newSub sub land forest planted)))
     unfolding added
     added-keeps holding kept = change-keeps holding kept number _ _ _ (added-changes _ _)

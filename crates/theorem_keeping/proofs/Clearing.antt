@@ -50,6 +50,6 @@ cleared-changes number sub year found area e =
       });
     }
 
-pub cleared-keeps : (holding : Holding) (number sub year : ℕ) → AreasKept holding → AreasKept (placed holding (cleared (lookedUp holding number) number sub year))
+pub cleared-keeps : (holding : Holding) (number sub year : ℕ) → AreasKept holding → AreasKept (placed holding (cleared (lookedUp holding number) sub year))
 unfolding cleared
 cleared-keeps holding number sub year kept = change-keeps holding kept number _ _ _ (cleared-changes number sub year _ _)

@@ -1,5 +1,5 @@
 -- A holding that a statement carries never meets refusal 11: that applies only to an area found whose fields no statement carries.
-use Rattle.laws.proofs.{ℕ, Bool, true, false, not, cond, _&&_, _||_, _≡_, refl, sym, ap, List, [], _∷_, arith, eqb, eq-eqb}
+use Rattle.laws.proofs.{ℕ, Bool, true, false, not, _&&_, _||_, _≡_, refl, sym, ap, subst, List, [], _∷_, arith, eqb, eq-eqb}
 use Rattle.laws.specs.{every}
 use Rattle.refusals.specs.{Refusal, numberOf, Case, weighed, weighAll, smallest, Verdict}
 use Rattle.refusals.proofs.Smallest.{turned-stands}
@@ -9,7 +9,7 @@ use Rattle.line_entry.specs.{Act, AreaAct}
 use Rattle.holding.specs.{Holding, findArea}
 use Rattle.holding_look.specs.{known, areaAt, lookedUp}
 use Rattle.statement_carried.specs.{fieldsCarried}
-use Rattle.step_outcome.specs.{Outcome, answered, uncarried, areaCases, turnedBack}
+use Rattle.step_outcome.specs.{Outcome, answered, uncarried, areaCases}
 use Rattle.step_open.specs.{openCases, opened}
 use Rattle.step_add.specs.{addCases, added}
 use Rattle.step_clear.specs.{clearCases, cleared}
@@ -17,6 +17,7 @@ use Rattle.step_plant.specs.{plantCases, planted}
 use Rattle.step_file.specs.{fileCases, filed}
 use Rattle.step_withdraw.specs.{withdrawCases, withdrawn}
 use Rattle.step.specs.{acted, applied, stepped}
+use Rattle.step.proofs.Entered.{step-is, step-turned}
 use Rattle.theorem_keeping.specs.{Kept}
 use Rattle.laws.proofs.Lists.{and-left, and-right, both}
 use Rattle.theorem_keeping.proofs.Tests.{clash}
@@ -66,7 +67,7 @@ module _ (holding : Holding) (kept : AreasKept holding) where
       go false e = refl
 
   acted-never : (own : List ℕ) (area : ℕ) (act : Act)
-      → acted own schedule6 (lookedUp holding area) area act .verdict ≡ Verdict.Refused Refusal.CarriedStatement → ⊥
+      → acted own schedule6 (lookedUp holding area) act .verdict ≡ Verdict.Refused Refusal.CarriedStatement → ⊥
   unfolding opened openCases added addCases cleared clearCases planted plantCases filed fileCases withdrawn withdrawCases areaCases silent every
   acted-never own area (Act.Open opening) e = never-answered _ _ refl (both _ true (found-carried area) refl) e
   acted-never own area (Act.Add sub land forest year) e = never-answered _ _ refl (both _ true (found-carried area) refl) e
@@ -76,9 +77,14 @@ module _ (holding : Holding) (kept : AreasKept holding) where
   acted-never own area Act.Withdraw e = never-answered _ _ refl (both _ true (found-carried area) refl) e
 
 pub never-eleven : (own : List ℕ) (holding : Holding) (on : AreaAct) → Kept holding → stepped own holding on .verdict ≡ Verdict.Refused Refusal.CarriedStatement → ⊥
-unfolding stepped applied
-never-eleven own holding on kept e = go (isTable own) e
+unfolding applied
+never-eleven own holding on kept = go (isTable own) refl
   where
-    go : (t : Bool) → cond t (applied own schedule6 holding on) (turnedBack Refusal.TableColumn) .verdict ≡ Verdict.Refused Refusal.CarriedStatement → ⊥
-    go true e = acted-never holding (kept-areas holding kept) own (on .area) (on .act) e
-    go false e = let z : _≡_ {A = ℕ} 0 1 = cc in omega arith
+    Never : Outcome → Type 0
+    Never outcome = outcome .verdict ≡ Verdict.Refused Refusal.CarriedStatement → ⊥
+
+    go : (t : Bool) → isTable own ≡ t → Never (stepped own holding on)
+    go true table = subst Never (step-is own holding on table) (acted-never holding (kept-areas holding kept) own (on .area) (on .act))
+    go false table =
+        step-turned own holding on Never table
+        (λ r few e. let same : r ≡ Refusal.CarriedStatement = cc in let number = ap numberOf same in omega (arith, number, few))

@@ -71,6 +71,6 @@ filed-changes own table number last found area e =
     }
 
 pub filed-keeps : (own : List ℕ) → isTable own ≡ true → (holding : Holding) (number last : ℕ) → AreasKept holding
-    → AreasKept (placed holding (filed own schedule6 (lookedUp holding number) number last))
+    → AreasKept (placed holding (filed own schedule6 (lookedUp holding number) last))
 unfolding filed
 filed-keeps own table holding number last kept = change-keeps holding kept number _ _ _ (filed-changes own table number last _ _)

@@ -1,16 +1,16 @@
 -- Every step keeps what a statement carries: a refused one leaves the holding, and an accepted one keeps it by the law of its letter. So every list
 -- of entries does, and what is reached from the empty holding is kept.
-use Rattle.laws.proofs.{ℕ, Bool, true, false, cond, _≡_, refl, List, [], _∷_}
+use Rattle.laws.proofs.{ℕ, Bool, true, false, _≡_, refl, subst, List, [], _∷_}
 use Rattle.laws.specs.{allOf, every, distinct}
-use Rattle.refusals.specs.{Refusal}
 use Rattle.schedules.specs.{schedule6}
 use Rattle.table.specs.{isTable}
 use Rattle.line_entry.specs.{Act, AreaAct}
 use Rattle.holding.specs.{Holding, emptyHolding}
 use Rattle.holding_look.specs.{lookedUp}
 use Rattle.statement_carried.specs.{carried}
-use Rattle.step_outcome.specs.{turnedBack, placed}
+use Rattle.step_outcome.specs.{Outcome, placed}
 use Rattle.step.specs.{acted, applied, stepped, holdingFrom}
+use Rattle.step.proofs.Entered.{step-is, step-turned}
 use Rattle.theorem_keeping.specs.{Each, Kept}
 use Rattle.theorem_keeping.proofs.Areas.{AreasKept, kept-areas, areas-kept}
 use Rattle.theorem_keeping.proofs.Opening.{opened-keeps}
@@ -22,7 +22,7 @@ use Rattle.theorem_keeping.proofs.Withdrawing.{withdrawn-keeps}
 
 module _ (own : List ℕ) (holding : Holding) where
   acted-keeps : (area : ℕ) (act : Act) → isTable own ≡ true → AreasKept holding
-      → AreasKept (placed holding (acted own schedule6 (lookedUp holding area) area act))
+      → AreasKept (placed holding (acted own schedule6 (lookedUp holding area) act))
   unfolding placed
   acted-keeps area (Act.Open opening) table kept = opened-keeps holding area opening kept
   acted-keeps area (Act.Add sub land forest year) table kept = added-keeps own table area sub land forest year holding kept
@@ -32,12 +32,15 @@ module _ (own : List ℕ) (holding : Holding) where
   acted-keeps area Act.Withdraw table kept = withdrawn-keeps holding area kept
 
   pub step-keeps : (on : AreaAct) → Kept holding → Kept (placed holding (stepped own holding on))
-  unfolding stepped applied placed
+  unfolding applied placed
   step-keeps on kept = go (isTable own) refl
     where
-      go : (t : Bool) → isTable own ≡ t → Kept (placed holding (cond t (applied own schedule6 holding on) (turnedBack Refusal.TableColumn)))
-      go true table = areas-kept _ (acted-keeps (on .area) (on .act) table (kept-areas holding kept))
-      go false table = kept
+      Keeps : Outcome → Type 0
+      Keeps outcome = Kept (placed holding outcome)
+
+      go : (t : Bool) → isTable own ≡ t → Keeps (stepped own holding on)
+      go true table = subst Keeps (step-is own holding on table) (areas-kept _ (acted-keeps (on .area) (on .act) table (kept-areas holding kept)))
+      go false table = step-turned own holding on Keeps table (λ r few. kept)
 
 pub list-keeps : (own : List ℕ) (holding : Holding) (es : List AreaAct) → Kept holding → Kept (holdingFrom own holding es)
 unfolding holdingFrom

@@ -32,10 +32,10 @@ opened-area number opening n y = record {
   subs = record { room = omega arith; tidy = record { long = refl; unused = refl }; each = tt; apart = refl };
 }
 
-pub opened-keeps : (holding : Holding) (number opening : ℕ) → AreasKept holding → AreasKept (placed holding (opened (lookedUp holding number) number opening))
+pub opened-keeps : (holding : Holding) (number opening : ℕ) → AreasKept holding → AreasKept (placed holding (opened (lookedUp holding number) opening))
 unfolding opened placed openCases findArea
 opened-keeps holding number opening kept =
-    answer-has holding (accepted Report.Nothing (Found.At (holding .count)) _ (openedArea number opening)) AreasKept (smallest (openCases (lookedUp holding number) number opening)) kept (λ e.
-    let out = ruled-out (openCases (lookedUp holding number) number opening) e in
+    answer-has holding (accepted Report.Nothing (Found.At (holding .count)) _ (openedArea number opening)) AreasKept (smallest (openCases (lookedUp holding number) opening)) kept (λ e.
+    let out = ruled-out (openCases (lookedUp holding number) opening) e in
     register-more kept (openedArea number opening) (unknown (findArea holding number) (out 3)) (leb-false _ _ (out 4))
     (opened-area number opening (not-false (isArea number) (out 0)) (not-false (isYear opening) (out 1))))

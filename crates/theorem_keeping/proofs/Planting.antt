@@ -48,6 +48,6 @@ planted-changes number sub forest year found area e =
     }
 
 pub planted-keeps : (holding : Holding) (number sub : ℕ) (forest : Forest) (year : ℕ) → AreasKept holding
-    → AreasKept (placed holding (planted (lookedUp holding number) number sub forest year))
+    → AreasKept (placed holding (planted (lookedUp holding number) sub forest year))
 unfolding planted
 planted-keeps holding number sub forest year kept = change-keeps holding kept number _ _ _ (planted-changes number sub forest year _ _)

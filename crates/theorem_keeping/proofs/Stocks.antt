@@ -1,10 +1,10 @@
 -- The bounds of stocks and changes. A rate is at most 30,000 and a share at most 10, so a sub-area of at most 100,000 tenths has trees of at most
 -- 3×10^10 kg and residue of at most that; sixteen have at most 96×10^10 kg, and between two such stocks lie at most 960,000,000 tonnes.
-use Rattle.laws.proofs.{ℕ, _+_, _-_, _*_, _≤_, Bool, true, false, cond, _≡_, refl, List, [], _∷_, arith, leb, length, length-take}
+use Rattle.laws.proofs.{ℕ, _+_, _-_, _*_, _≤_, Bool, true, false, cond, _≡_, refl, List, [], _∷_, arith, leb, ltb, length, length-take}
 use native.Mathlib.Nat.{mul-le-mul, mul-suc}
 use Rattle.laws.specs.{sumBy, eachAtMost}
 use Rattle.laws.proofs.Lists.{ceiling-at}
-use Rattle.units.specs.{Kilograms, Change, treesOf, residueOf, tonnes, changeBetween}
+use Rattle.units.specs.{Kilograms, noKilograms, Change, treesOf, residueOf, tonnes, changeBetween}
 use Rattle.ranges.specs.{mostLand}
 use Rattle.schedules.specs.{cellCeiling, schedule6, Kind}
 use Rattle.table.specs.{isTable}
@@ -33,19 +33,26 @@ unfolding sumBy Each
 sum-at-most f m [] p = omega arith
 sum-at-most f m (a ∷ l) p = let h : f a ≤ m = p .0 in omega (arith, mul-suc m (length l), sum-at-most f m l (p .1))
 
+-- none is within every bound
+unless : (t : Bool) (stock : Kilograms) (m : ℕ) → stock .0 ≤ m → cond t noKilograms stock .0 ≤ m
+unless true stock m h = omega arith
+unless false stock m h = h
+
 module _ (own : List ℕ) (table : isTable own ≡ true) where
   module _ (sub : Sub) (y : ℕ) (land : sub .tenths .0 ≤ mostLand) where
     pub trees-at-most : treesOn own schedule6 sub y .0 ≤ 30000000000
     unfolding treesOn treesOf
     trees-at-most =
         let rate = six-at-most own Kind.Stock (sub .forest) (y - sub .planted) table in
-        omega (arith, product-at-most _ _ 10 mostLand cellCeiling 10 land rate (omega arith))
+        unless (ltb y (sub .planted)) _ _ (omega (arith, product-at-most _ _ 10 mostLand cellCeiling 10 land rate (omega arith)))
 
     pub residue-at-most : residueOn own schedule6 sub y .0 ≤ 30000000000
     unfolding oneResidueOn residueOf
     residue-at-most =
         let rate = six-at-most own Kind.Residue (sub .residue .forest) (sub .residue .age) table in
-        rw residue-alone (omega (arith, product-at-most _ _ _ mostLand cellCeiling 10 land rate (share-at-most (y - sub .residue .year))))
+        rw residue-alone
+        (unless (leb y (sub .residue .year)) _ _
+        (omega (arith, product-at-most _ _ _ mostLand cellCeiling 10 land rate (share-at-most (y - sub .residue .year)))))
 
     pub sub-at-most : subStock own schedule6 sub y .0 ≤ stockForSub
     unfolding subStock

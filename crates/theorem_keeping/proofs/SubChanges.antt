@@ -1,5 +1,5 @@
 -- A clearing or a planting changes the one sub-area that it looked up. The latest year grows, which every other sub-area bears.
-use Rattle.laws.proofs.{ℕ, _≤_, Bool, true, false, _||_, _≡_, refl, sym, eqb}
+use Rattle.laws.proofs.{ℕ, _≤_, max, Bool, true, false, _||_, _≡_, refl, sym, arith, eqb}
 use Rattle.ranges.specs.{isYear}
 use Rattle.holding.specs.{Sub, Area, Found, emptySub, findSub}
 use Rattle.holding_look.specs.{known, subAt, withSub, subsWith}
@@ -39,7 +39,8 @@ module _ (area : Area) (k : AreaKept area) (number : ℕ) where
   unfolding withSub
   sub-change-keeps after year c =
       let years = k .fields .years in
-      record {
+      let latest : max (area .latest) year ≡ year = omega (arith, c .grows) in
+      rw latest (record {
         fields = record {
           number = k .fields .number;
           years = record {
@@ -53,4 +54,4 @@ module _ (area : Area) (k : AreaKept area) (number : ℕ) where
           amounts = k .fields .amounts;
         };
         subs = sub-put (findSub area number) after year refl c;
-      }
+      })

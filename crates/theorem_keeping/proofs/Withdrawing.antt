@@ -29,6 +29,6 @@ withdrawn-changes number found area e =
     let out = ruled-out (withdrawCases number found area) e in
     record { stands = not-false (known found) (out 2); number = refl; keeps = withdrawn-area area }
 
-pub withdrawn-keeps : (holding : Holding) (number : ℕ) → AreasKept holding → AreasKept (placed holding (withdrawn (lookedUp holding number) number))
+pub withdrawn-keeps : (holding : Holding) (number : ℕ) → AreasKept holding → AreasKept (placed holding (withdrawn (lookedUp holding number)))
 unfolding withdrawn
 withdrawn-keeps holding number kept = change-keeps holding kept number _ _ _ (withdrawn-changes number _ _)

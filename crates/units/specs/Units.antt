@@ -1,5 +1,5 @@
 -- "Tenths of a hectare, tenths of a tonne per hectare and kilograms are three units. Tenth times tenth is 10 kg, so stocks are exact in kilograms."
-use Rattle.laws.specs.{ℕ, _+_, _*_, _/_, suc, _-_, cond, leb, ℤ, pos, negsuc, negℤ}
+use Rattle.laws.specs.{ℕ, _+_, _*_, _/_, suc, _-_, min, cond, leb, ℤ, pos, negsuc, negℤ}
 use Rattle.units.specs.declared.Tenths.{Tenths}
 use Rattle.units.specs.declared.Rate.{Rate}
 use Rattle.units.specs.declared.Kilograms.{Kilograms}
@@ -16,6 +16,17 @@ treesOf land rate = record { 0 = land .0 * rate .0 * 10 }
 -- "residue ..: tenths × residue cell .. × share"
 unfoldable pub residueOf : Tenths → Rate → ℕ → Kilograms
 residueOf land rate share = record { 0 = land .0 * rate .0 * share }
+
+abbrev pub noKilograms : Kilograms
+noKilograms = record { 0 = 0 }
+
+-- the most kilograms that 64 bits hold
+abbrev pub mostKilograms : ℕ
+mostKilograms = 18446744073709551615
+
+-- the sum of two stocks, which stops there: no stock of a holding or of parcels comes near
+unfoldable pub plus : Kilograms → Kilograms → Kilograms
+plus stock more = record { 0 = min (stock .0 + more .0) mostKilograms }
 
 -- a size in kilograms to tonnes, halves up; "rounded to tonnes, half up" of emissions too
 unfoldable pub tonnes : ℕ → ℕ

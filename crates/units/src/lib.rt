@@ -1,8 +1,8 @@
 // The three units of the accounts, and the rounding to tenths of a hectare and to tonnes.
-// Products alone turn tenths of a hectare and tenths of a tonne per hectare into kilograms.
+// Products alone turn tenths of a hectare and tenths of a tonne per hectare into kilograms, and kilograms are added to kilograms alone.
 ghost use mathlib.Core.Path.{_≡_};
 ghost use Prim.Native.Nat.{_*_, _≤_};
-ghost use Rattle.units.specs.{tenthsOf, treesOf, residueOf, tonnes, changeBetween};
+ghost use Rattle.units.specs.{tenthsOf, treesOf, residueOf, noKilograms, plus, tonnes, changeBetween};
 
 // Tenths of a hectare.
 pub struct Tenths(pub u32);
@@ -37,7 +37,9 @@ impl Tenths {
     pub fn residue(self, rate: Rate, share: u8) -> Kilograms
         ensures { λ r. ⌜ (r ≡ residueOf self rate share) × (r .0 ≤ 4294967295 * 65535 * 255) ⌝ }
     {
-        Kilograms(self.0 as u64 * rate.0 as u64 * share as u64)
+        let whole = self.0 as u64 * rate.0 as u64;
+        let left = share as u64;
+        Kilograms(whole * left)
     }
 }
 
@@ -48,7 +50,28 @@ fn nearest(kg: u64) -> u64
     kg / 1000 + kg % 1000 / 500
 }
 
+// The most kilograms that there is room for.
+const MOST_KILOGRAMS: u64 = 18446744073709551615;
+
 impl Kilograms {
+    pub fn none() -> Kilograms
+        ensures { λ r. ⌜ r ≡ noKilograms ⌝ }
+    {
+        Kilograms(0)
+    }
+
+    // The sum of two stocks, which stops at the most that there is room for.
+    pub fn plus(self, more: Kilograms) -> Kilograms
+        ensures { λ r. ⌜ r ≡ plus self more ⌝ }
+    {
+        let stock = self.0;
+        let other = more.0;
+        if MOST_KILOGRAMS - stock < other {
+            return Kilograms(MOST_KILOGRAMS);
+        }
+        Kilograms(stock + other)
+    }
+
     pub fn to_tonnes(self) -> u64
         ensures { λ r. ⌜ r ≡ tonnes (self .0) ⌝ }
     {

@@ -1,7 +1,6 @@
 -- `book_run::put_lines` meets its contract. The loop's invariant: what the lines from here on print, put behind what was put, is what all print, and
 -- their run is the run of all.
 use Rattle.laws.proofs.{ℕ, _+_, _-_, _≤_, _≡_, refl, sym, ap, _∙_, ⊎-elim, List, [], arith, length, take, drop, needs}
-use native.Mathlib.Nat.{sub-zero}
 use Rattle.text.specs.{greatest, lineEnd, Wrote}
 use Rattle.text.proofs.Widths.{end-inside}
 use Rattle.text.proofs.Writes.{wrote-none, wrote-then, wrote-as, wrote-length}
@@ -13,7 +12,7 @@ use Rattle.step_outcome.proofs.Laws.{placed-here, placed-out, placed-nowhere}
 use Rattle.table.specs.{longestTable}
 use Rattle.book_listing.specs.{linesOf, Run, start, runFrom, printedFrom, longestBook}
 use Rattle.book_listing.proofs.Folding.{from-line, run-line, from-none, run-none}
-use Rattle.book_run.proofs.Following.{placed-long, turn-is-of, turn-prints, turn-runs}
+use Rattle.book_run.proofs.Following.{placed-long, turn-prints, turn-runs}
 use Rattle.book_run.proofs.put_lines.Tie as tie
 
 abbrev Inv-loop : tie.InvT-loop
@@ -47,8 +46,8 @@ loop-holds c = (
 )
 
 -- the line taken before the holding changes, the area looked up before it was taken, the line's end before that, and the loop's turn
-abbrev takenOf : tie.At-match2-came Inv-loop μ-loop → tie.After-take Inv-loop μ-loop
-takenOf c = c .before .before .before .before .before .before .before .before .before .before
+abbrev takenOf : tie.At-match2-came Inv-loop μ-loop → tie.After-take-line Inv-loop μ-loop
+takenOf c = c .before .before .before .before .before .before
 
 abbrev lookedOf : tie.At-match2-came Inv-loop μ-loop → tie.At-match-came Inv-loop μ-loop
 lookedOf c = takenOf c .before .before .before .before .before
@@ -75,7 +74,7 @@ few : (c : tie.At-match-came Inv-loop μ-loop) → let l = loopOf c .loop in l .
 few c = let l = loopOf c in omega (arith, l .loop .inv .1, endOf c .before .loop-test .taken, l .before .before .before .before .before .pre)
 
 -- the area looked up
-looks : (c : tie.At-match-came Inv-loop μ-loop) → let found = c .before .before .find .result in
+looks : (c : tie.At-match-came Inv-loop μ-loop) → let found = c .before .before .find .result .found in
     (c .match .found ≡ found) × (c .match .named ≡ areaAt (loopOf c .loop .holding) found)
 looks c =
     ⊎-elim
@@ -86,7 +85,7 @@ looks c =
     (c .match .came)
 
 -- the holding after a line
-stands : (c : tie.At-match2-came Inv-loop μ-loop) → c .match2 .holding ≡ placed (loopOf (lookedOf c) .loop .holding) (takenOf c .take .result .outcome)
+stands : (c : tie.At-match2-came Inv-loop μ-loop) → c .match2 .holding ≡ placed (loopOf (lookedOf c) .loop .holding) (takenOf c .take-line .result)
 stands c =
     ⊎-elim
     (λ a. a .5 ∙ placed-here _ _ _ (a .1 .given .1))
@@ -94,6 +93,10 @@ stands c =
     (λ a. a .5 ∙ placed-out _ _ _ (a .1 .given .1) (omega (arith, a .4 .left, loopOf (lookedOf c) .loop .inv .4)))
     (λ a. a .2 ∙ placed-nowhere _ _ (a .1 .given .1)))
     (c .match2 .came)
+
+-- the line is taken as it was read
+as-read : tie.Need-take-line-requires Inv-loop μ-loop
+as-read c κs = let k = c .before .before .before .before in let l = loopOf k .loop in (l .inv .2, l .inv .3, k .before .before .before .parse .ensures)
 
 add-i : tie.Need-add-i Inv-loop μ-loop
 add-i c = let e = endOf (lookedOf c) in omega (arith, ended e, e .before .before .before .before .before .before .before .pre)
@@ -105,25 +108,26 @@ loop-again : tie.Need-loop-again Inv-loop μ-loop
 loop-again c =
     let counts = c .before .counted in
     let put = c .before .before .before .before .put-line .ensures .wrote in
-    let grown = c .before .before .before .before .before .before .before .extend .ensures in
     let t = takenOf c in
     let e = endOf (lookedOf c) in
     let l = loopOf (lookedOf c) in
     let book = l .before .before .before .before .before .args .book .now in
     let line = take (e .end-of .result - l .loop .i) (drop (l .loop .i) book) in
     let k = lookedOf c in
-    let turn =
-    turn-is-of _ _ _ line _ _ _ (t .take .result) (t .take .ensures) (k .before .before .before .parse .ensures) (looks k .0 ∙ k .before .before .find .ensures) (looks k .1 ∙ ap (areaAt _) (sym (looks k .0))) in
-    let own = ap (λ (n : ℕ). take n (l .loop .table)) (sub-zero (l .loop .count)) in
+    let turn = t .take-line .ensures in
+    let read = k .before .before .before .parse .ensures in
+    let names = k .before .before .find .ensures in
+    let found = looks k .0 in
+    let area = looks k .1 ∙ ap (areaAt _) (sym (looks k .0)) in
     let six = l .before .before .schedule-six .ensures in
     let runs =
-    turn-runs (runOf l) line _ _ (t .take .result) turn own six _ _ _ _ (counts .result)
-    (grown .front) (stands c) (counts .ensures .0) refl refl in
-    let prints = turn-prints (runOf l) line _ _ (t .take .result) turn own six in (
+    turn-runs (runOf l) line _ _ _ _ _ _ _ (t .take-line .result) turn read names found area six _ _ _ (counts .result)
+    (stands c) (counts .ensures .0) refl refl in
+    let prints = turn-prints (runOf l) line _ _ _ _ _ _ _ (t .take-line .result) turn read names found area six in (
       omega (arith, ended e),
       omega (arith, ended e, counts .ensures .1, l .loop .inv .1),
-      grown .fits,
-      grown .whole,
+      turn .leaves .fits,
+      turn .leaves .whole,
       ap (λ (h : Holding). length (h .areas)) (stands c) ∙ placed-long _ _ ∙ l .loop .inv .4,
       wrote-length put ∙ l .loop .inv .5,
       λ o p w.
@@ -150,17 +154,12 @@ put-lines-spec = tie.close (tie.spec Inv-loop μ-loop (λ c κs. search needs) (
     (λ c. omega (arith, ended c)) (λ c. omega (arith, ended c)) (λ c. omega (arith, ended c)) (λ c κs. search needs) (λ c κs. search needs)
     (λ c κs. search needs) (λ c. search needs) (λ c. omega arith)
     (λ c. omega (arith, c .if1 .taken, c .before .before .before .before .before .before .before .before .before .before .loop .inv .4))
-    (λ c. search needs) (λ c. omega arith) (λ c. omega arith) (λ c. omega arith) (λ c. search needs)
-    (λ c. omega (arith, ended (endOf (c .before .before .before)))) (λ c. omega (arith, ended (endOf (c .before .before .before))))
-    (λ c. omega (arith, ended (endOf (c .before .before .before)))) (λ c κs. search needs)
-    (λ c. omega (arith, ended (endOf (c .before .before .before .before .before .before))))
-    (λ c. omega (arith, ended (endOf (c .before .before .before .before .before .before))))
-    (λ c. omega (arith, ended (endOf (c .before .before .before .before .before .before)))) (λ c κs. search needs)
-    (λ c. omega (arith, few (c .before .before .before .before .before .before .before .before .before .before)))
-    (λ c. omega (arith, few (c .before .before .before .before .before .before .before .before .before .before))) (λ c κs. search needs)
-    (λ c κs. search needs)
-    (λ c. omega (arith, c .counted .ensures .1, few (c .before .before .before .before .before .before .before .before .before .before .before .before .before .before)))
+    (λ c. search needs) (λ c. search needs) (λ c. omega (arith, ended (endOf (c .before .before .before))))
+    (λ c. omega (arith, ended (endOf (c .before .before .before)))) (λ c. omega (arith, ended (endOf (c .before .before .before)))) as-read
+    (λ c. omega (arith, few (c .before .before .before .before .before .before))) (λ c. omega (arith, few (c .before .before .before .before .before .before)))
+    (λ c κs. search needs) (λ c κs. search needs)
+    (λ c. omega (arith, c .counted .ensures .1, few (c .before .before .before .before .before .before .before .before .before .before)))
     (λ c. omega (arith, c .counted .ensures .1))
-    (λ c. omega (arith, c .counted .ensures .1, few (c .before .before .before .before .before .before .before .before .before .before .before .before .before .before)))
+    (λ c. omega (arith, c .counted .ensures .1, few (c .before .before .before .before .before .before .before .before .before .before)))
     (λ c. search needs) (λ c. omega arith) (λ c. search needs) (λ c. search needs) add-i loop-less loop-again
     (λ c. c .before .loop .inv .5) returns)

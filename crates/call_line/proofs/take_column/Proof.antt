@@ -10,14 +10,14 @@ part-write-table-end c =
     let l = told .before .before in
     let g = l .before in
     let f = g .before .before in
-    column-fits _ _ _ _ _ _ _ (f .read-from .ensures) (g .grow .ensures) (l .least .ensures) (told .enum-told .given .1)
+    column-fits _ _ _ _ _ _ (f .read-from .ensures) (g .grow .ensures) (l .least .ensures) (told .enum-told .given .1)
 
 returns : tie.Need-returns
 returns c =
     let l = c .before .before .before in
     let g = l .before in
     let f = g .before .before in
-    gives-refused _ _ _ _ (sym (column-weighed _ _ _ _ _ _ _ (f .read-from .ensures) (g .grow .ensures) (l .least .ensures)) ∙ c .before .v .given .1)
+    gives-refused _ _ _ _ (sym (column-weighed _ _ _ _ _ _ (f .read-from .ensures) (g .grow .ensures) (l .least .ensures)) ∙ c .before .v .given .1)
 
 returns-2 : tie.Need-returns-2
 returns-2 c =
@@ -27,8 +27,8 @@ returns-2 c =
     let g = l .before in
     let f = g .before .before in
     let clear = told .enum-told .given .1 in
-    gives-as (column-weighed _ _ _ _ _ _ _ (f .read-from .ensures) (g .grow .ensures) (l .least .ensures))
-    (ap tableBytes (column-front _ _ _ _ _ _ _ (f .read-from .ensures) (g .grow .ensures) (l .least .ensures) clear))
+    gives-as (column-weighed _ _ _ _ _ _ (f .read-from .ensures) (g .grow .ensures) (l .least .ensures))
+    (ap tableBytes (column-front _ _ _ _ _ _ (f .read-from .ensures) (g .grow .ensures) (l .least .ensures) clear))
     (gives-written _ _ _ _ _ clear (w .write-table .ensures))
 
 pub take-column-spec : {M : Type 1} → Rattle.call_line.proofs.take_column.Statement.statement M

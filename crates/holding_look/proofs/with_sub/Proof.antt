@@ -9,13 +9,13 @@ all-places : (c : tie.Start) → length (c .args .area .subs) ≡ mostSubs
 all-places c = search (needs, as-long)
 
 returns : tie.Need-returns
-returns c = put-here _ _ _ _ _ (c .before .before .found .given .1)
+returns c = put-here _ _ _ _ _ (c .before .before .before .before .later .ensures) _ (c .before .before .found .given .1)
 
 returns-2 : tie.Need-returns-2
-returns-2 c = put-out _ _ _ _ _ (c .before .before .found .given .1) (omega (arith, all-places (c .before .before .before .before)))
+returns-2 c = put-out _ _ _ _ _ (c .before .before .before .before .later .ensures) _ (c .before .before .found .given .1) (omega (arith, all-places (c .before .before .before .before .before)))
 
 returns-3 : tie.Need-returns-3
-returns-3 c = put-nowhere _ _ _ _ (c .enum-told .given .1)
+returns-3 c = put-nowhere _ _ _ _ _ (c .before .before .later .ensures) (c .enum-told .given .1)
 
 pub with-sub-spec : {M : Type 1} → Rattle.holding_look.proofs.with_sub.Statement.statement M
-with-sub-spec = tie.close (tie.spec (λ c. search needs) (λ c. search needs) (λ c. search needs) (λ c. search needs) returns returns-2 returns-3)
+with-sub-spec = tie.close (tie.spec (λ c κs. search needs) (λ c. search needs) (λ c. search needs) (λ c. search needs) (λ c. search needs) returns returns-2 returns-3)

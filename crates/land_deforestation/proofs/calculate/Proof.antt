@@ -1,9 +1,9 @@
 -- `land_deforestation::calculate` meets its contract, by the verdict.
 use Rattle.laws.proofs.{ℕ, sym, ap, _∙_, List, needs, take}
-use Rattle.laws.specs.{sumBy}
 use Rattle.refusals.specs.{Verdict}
 use Rattle.units.specs.{tonnes}
-use Rattle.land_deforestation.specs.{kilogramsOf, answerOf, emissionsOf, Emissions}
+use Rattle.units.proofs.Sums.{number}
+use Rattle.land_deforestation.specs.{totalOf, answerOf, emissionsOf, Emissions}
 use Rattle.land_deforestation.proofs.calculate.Tie as tie
 
 returns : tie.Need-returns
@@ -20,7 +20,7 @@ returns-2 c =
     let j = s .before .before .before in
     let a = j .before .args in
     let ps = take (a .count) (a .parcels) in
-    let kg = c .before .total .ensures ∙ ap (λ (cells : List ℕ). sumBy (kilogramsOf cells) ps) (s .schedule-four .ensures) in
+    let kg = ap number (c .before .total .ensures ∙ ap (λ (cells : List ℕ). totalOf cells ps) (s .schedule-four .ensures)) in
     ap Emissions.Tonnes (c .to-tonnes .ensures ∙ ap tonnes kg) ∙ ap (λ (v : Verdict). answerOf v ps) (sym (s .before .enum-told .given .1) ∙ j .judge .ensures)
 
 pub calculate-spec : {M : Type 1} → Rattle.land_deforestation.proofs.calculate.Statement.statement M

@@ -1,6 +1,6 @@
 -- `line_area::area_and_year` meets its contract: the verdict, case by case, is that of the table.
 use Rattle.laws.proofs.{lit<}
-use Rattle.text_field.proofs.Laws.{count-found}
+use Rattle.text_field.proofs.Laws.{count-found, field-found}
 use Rattle.refusals.specs.{weighAll, smallest}
 use Rattle.line_entry.specs.{areaAndYear}
 use Rattle.line_entry.proofs.Laws.{number-found}
@@ -20,8 +20,9 @@ returns c =
       w .before .weigh-area .ensures,
       w .before .before .weigh-form2 .ensures,
       w .before .before .before .weigh-form .ensures,
-      w .before .before .before .before .weigh .ensures,
+      w .before .before .before .before .weigh-letter .ensures,
       count-found _ _ scanned,
+      field-found _ _ scanned 0 (lit< tt),
       number-found _ _ 1 _ scanned (lit< tt) (r .before .number-at .ensures),
       number-found _ _ 2 _ scanned (lit< tt) (r .number-at2 .ensures),
     )

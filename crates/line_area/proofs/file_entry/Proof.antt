@@ -7,5 +7,5 @@ use Rattle.line_area.proofs.file_entry.Tie as tie
 pub file-entry-spec : {M : Type 1} → Rattle.line_area.proofs.file_entry.Statement.statement M
 unfolding fileRule
 file-entry-spec = tie.close (tie.spec (λ c κs. tt) (λ c. search needs) (λ c. search needs)
-    (λ c. year-turned _ _ (c .before .before .before .area-and-year .ensures) _ _ (c .before .v .given .1))
-    (λ c. year-taken _ _ (c .before .before .area-and-year .ensures) Act.File (c .enum-told .given .1)))
+    (λ c. year-turned _ _ _ (c .before .before .before .area-and-year .ensures) _ _ (c .before .v .given .1))
+    (λ c. year-taken _ _ _ (c .before .before .area-and-year .ensures) Act.File (c .enum-told .given .1)))

@@ -1,7 +1,7 @@
 -- `line_area::withdraw_entry` meets its contract: the verdict, case by case, is the rule's, and a clear one bounds the number.
 use Rattle.laws.proofs.{_≡_, sym, _∙_, needs, lit<, lit≤}
 use Rattle.text.specs.{split}
-use Rattle.text_field.proofs.Laws.{count-found}
+use Rattle.text_field.proofs.Laws.{count-found, field-found}
 use Rattle.refusals.specs.{weighAll, smallest}
 use Rattle.refusals.proofs.Laws.{ruled-out}
 use Rattle.line_entry.specs.{withdrawRule}
@@ -16,8 +16,9 @@ verdict w =
     simp (
       w .weigh-area .ensures,
       w .before .weigh-form .ensures,
-      w .before .before .weigh .ensures,
+      w .before .before .weigh-letter .ensures,
       count-found _ _ scanned,
+      field-found _ _ scanned 0 (lit< tt),
       number-found _ _ 1 _ scanned (lit< tt) (r .number-at .ensures),
     )
 

@@ -1,7 +1,7 @@
 -- `line_stand::clear_entry` meets its contract: the verdict, case by case, is the rule's, and a clear one bounds the numbers.
 use Rattle.laws.proofs.{_≡_, sym, _∙_, needs, lit<, lit≤}
 use Rattle.text.specs.{split}
-use Rattle.text_field.proofs.Laws.{count-found}
+use Rattle.text_field.proofs.Laws.{count-found, field-found}
 use Rattle.refusals.specs.{weighAll, smallest}
 use Rattle.refusals.proofs.Laws.{ruled-out}
 use Rattle.line_entry.specs.{clearRule}
@@ -21,8 +21,9 @@ verdict w =
       form .weigh-form3 .ensures,
       form .before .weigh-form2 .ensures,
       form .before .before .weigh-form .ensures,
-      form .before .before .before .weigh .ensures,
+      form .before .before .before .weigh-letter .ensures,
       count-found _ _ scanned,
+      field-found _ _ scanned 0 (lit< tt),
       number-found _ _ 1 _ scanned (lit< tt) (r .before .before .number-at .ensures),
       number-found _ _ 2 _ scanned (lit< tt) (r .before .number-at2 .ensures),
       number-found _ _ 3 _ scanned (lit< tt) (r .number-at3 .ensures),

@@ -2,7 +2,7 @@
 use Rattle.laws.proofs.{_≡_, sym, ap, _∙_, needs, lit<, lit≤}
 use Rattle.forest.specs.{named}
 use Rattle.text.specs.{split}
-use Rattle.text_field.proofs.Laws.{count-found}
+use Rattle.text_field.proofs.Laws.{count-found, field-found}
 use Rattle.refusals.specs.{weighAll, smallest}
 use Rattle.refusals.proofs.Laws.{ruled-out}
 use Rattle.line_entry.specs.{plantRule}
@@ -17,15 +17,16 @@ verdict w =
     let scanned = r .before .before .before .before .before .scan .ensures in
     simp (
       w .weigh-year .ensures,
-      w .before .weigh2 .ensures,
+      w .before .weigh .ensures,
       w .before .before .is-unplantable .ensures,
       w .before .before .before .weigh-sub .ensures,
       w .before .before .before .before .weigh-area .ensures,
       form .weigh-form3 .ensures,
       form .before .weigh-form2 .ensures,
       form .before .before .weigh-form .ensures,
-      form .before .before .before .weigh .ensures,
+      form .before .before .before .weigh-letter .ensures,
       count-found _ _ scanned,
+      field-found _ _ scanned 0 (lit< tt),
       number-found _ _ 1 _ scanned (lit< tt) (r .before .before .before .before .number-at .ensures),
       number-found _ _ 2 _ scanned (lit< tt) (r .before .before .before .number-at2 .ensures),
       found named _ _ 3 _ scanned (lit< tt) (r .before .read .ensures ∙ ap named (r .before .before .field .ensures)),

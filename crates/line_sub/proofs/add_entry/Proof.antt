@@ -4,14 +4,14 @@ use Rattle.units.specs.{tenthsOf}
 use Rattle.forest.specs.{named}
 use Rattle.text_decimal.specs.{hectaresIn}
 use Rattle.text.specs.{split}
-use Rattle.text_field.proofs.Laws.{count-found}
+use Rattle.text_field.proofs.Laws.{count-found, field-found}
 use Rattle.refusals.specs.{weighAll, smallest}
 use Rattle.refusals.proofs.Laws.{ruled-out}
 use Rattle.line_entry.specs.{typeAt, addRule}
 use Rattle.line_entry.proofs.Laws.{turned, taken, found, number-found, value-found, planted-found}
 use Rattle.line_sub.proofs.add_entry.Tie as tie
 
-verdict : (w : tie.After-weigh4) → w .weigh4 .result ≡ smallest (addRule (split (w .before .before .before .before .before .before .before .before .before .before .before .before .before .before .before .before .before .before .before .before .before .before .args .line .now)) .cases)
+verdict : (w : tie.After-weigh3) → w .weigh3 .result ≡ smallest (addRule (split (w .before .before .before .before .before .before .before .before .before .before .before .before .before .before .before .before .before .before .before .before .before .before .args .line .now)) .cases)
 unfolding addRule smallest weighAll
 verdict w =
     let type = w .before .before .before .before in
@@ -19,11 +19,11 @@ verdict w =
     let r = form .before .before .before .before .before in
     let scanned = r .before .before .before .before .before .before .before .scan .ensures in
     simp (
-      w .weigh4 .ensures,
+      w .weigh3 .ensures,
       w .before .is-misdated .ensures,
-      w .before .before .weigh3 .ensures,
+      w .before .before .weigh2 .ensures,
       w .before .before .before .is-outside .ensures,
-      type .weigh2 .ensures,
+      type .weigh .ensures,
       type .before .is-unlisted .ensures,
       type .before .before .weigh-sub .ensures,
       type .before .before .before .weigh-area .ensures,
@@ -31,8 +31,9 @@ verdict w =
       form .before .weigh-form3 .ensures,
       form .before .before .weigh-form2 .ensures,
       form .before .before .before .weigh-form .ensures,
-      form .before .before .before .before .weigh .ensures,
+      form .before .before .before .before .weigh-letter .ensures,
       count-found _ _ scanned,
+      field-found _ _ scanned 0 (lit< tt),
       number-found _ _ 1 _ scanned (lit< tt) (r .before .before .before .before .before .before .number-at .ensures),
       number-found _ _ 2 _ scanned (lit< tt) (r .before .before .before .before .before .number-at2 .ensures),
       found hectaresIn _ _ 3 _ scanned (lit< tt) (r .before .before .before .hectares .ensures ∙ ap hectaresIn (r .before .before .before .before .field .ensures)),

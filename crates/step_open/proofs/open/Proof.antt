@@ -10,8 +10,8 @@ room : (c : tie.After-enum-told) → c .before .before .before .args .looked .co
 unfolding openCases
 room c = leb-false _ _ (ruled-out _ (sym (c .before .before .verdict .ensures) ∙ c .enum-told .given .1) 4)
 
-add-t12 : tie.Need-add-t12
-add-t12 c = omega (arith, room (c .before))
+add-t11 : tie.Need-add-t11
+add-t11 c = omega (arith, room (c .before))
 
 returns : tie.Need-returns
 unfolding opened
@@ -22,5 +22,5 @@ unfolding opened
 returns-2 c = taken _ _ (c .before .before .before .verdict .ensures) _ _ (c .before .enum-told .given .1) (simp (c .empty-area .ensures))
 
 pub open-spec : {M : Type 1} → Rattle.step_open.proofs.open.Statement.statement M
-open-spec = tie.close (tie.spec (λ c κs. search needs) (λ c. search needs) (λ c κs. search needs) (λ c. search needs) (λ c κs. search needs) add-t12
+open-spec = tie.close (tie.spec (λ c κs. search needs) (λ c. search needs) (λ c κs. search needs) (λ c. search needs) (λ c κs. search needs) add-t11
     returns returns-2)

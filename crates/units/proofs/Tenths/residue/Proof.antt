@@ -5,17 +5,17 @@ use Rattle.units.proofs.Products.{product-fits, stock-fits}
 use Rattle.units.proofs.Tenths.residue.Statement.{statement}
 use Rattle.units.proofs.Tenths.residue.Tie as tie
 
-cast-t4 : tie.Need-cast-t4
-cast-t4 c = search needs
-
-cast-t5 : tie.Need-cast-t5
-cast-t5 c = search needs
+mul-whole : tie.Need-mul-whole
+mul-whole c = let a = c .before .before .args in omega (arith, product-fits (a .self .0) (a .rate .0) (omega arith) (omega arith))
 
 mul-t6 : tie.Need-mul-t6
-mul-t6 c = let a = c .before .before .args in omega (arith, product-fits (a .self .0) (a .rate .0) (omega arith) (omega arith))
-
-mul-t8 : tie.Need-mul-t8
-mul-t8 c = let a = c .before .before .args in omega (arith, stock-fits (a .self .0) (a .rate .0) (a .share) (omega arith) (omega arith) (omega arith))
+mul-t6 c =
+    let a = c .before .before .args in
+    omega (
+      arith,
+      product-fits (a .self .0) (a .rate .0) (omega arith) (omega arith),
+      stock-fits (a .self .0) (a .rate .0) (a .share) (omega arith) (omega arith) (omega arith),
+    )
 
 returns : tie.Need-returns
 unfolding residueOf
@@ -24,4 +24,4 @@ returns c =
     (search needs, omega (arith, stock-fits (a .self .0) (a .rate .0) (a .share) (omega arith) (omega arith) (omega arith)))
 
 pub residue-spec : {M : Type 1} → statement M
-residue-spec = tie.close (tie.spec cast-t4 cast-t5 mul-t6 mul-t8 returns)
+residue-spec = tie.close (tie.spec (λ c. search needs) (λ c. search needs) mul-whole mul-t6 returns)

@@ -1,0 +1,3 @@
+pub mod Naming
+pub use declared.Named.{Named}
+pub use Naming.{nothingNamed, namedBy}

@@ -1,0 +1,2 @@
+pub mod Naming
+pub use Naming.{Names, NamesSome}

@@ -1,0 +1,1 @@
+// Demand 3 for what runs: every list of lines through the call, and every book. No code.
