@@ -19,11 +19,15 @@ RANGE = re.compile(r"^(?:add|sub|mul|neg|cast|div|rem|element|slice|index)-")
 
 
 def first_error(log):
-    """The declaration or the need that failed first, and what was said of it; a function without a proof file has notes alone."""
-    found = ERROR.search(log.read_text(errors="replace")) if log.is_file() else None
-    if found is None:
-        return "", ""
-    return found["declared"] or found["need"] or "", found["said"] or found["unproved"]
+    """The declaration or the need that failed first, and what was said of it, with the line behind; what only follows from another is passed over.
+    A function without a proof file has notes alone."""
+    text = log.read_text(errors="replace") if log.is_file() else ""
+    for found in ERROR.finditer(text):
+        said = found["said"] or found["unproved"]
+        if "was not admitted" not in said:
+            behind = text[found.end() :].lstrip("\n").split("\n", 1)[0]
+            return found["declared"] or found["need"] or "", f"{said} {behind.strip()}"
+    return "", ""
 
 
 def kind(declaration, message):
