@@ -44,7 +44,7 @@ fn own_number(kind: Kind, forest: Forest) -> usize
 }
 
 // The cells of the column consulted: a part of the participant's table or, where that column has none, of the default one.
-pub fn column<'a>(own: &'a [u16], default: &'a [u16], kind: Kind, forest: Forest) -> &'a [u16]
+fn column<'a>(own: &'a [u16], default: &'a [u16], kind: Kind, forest: Forest) -> &'a [u16]
     ensures { λ r. ⌜ now r ≡ consulted (now (own .entry)) (now (default .entry)) kind forest .cells ⌝ }
 {
     let number = own_number(kind, forest);

@@ -31,7 +31,7 @@ fn cells_of(table: &[u16]) -> &[u16]
 }
 
 // A list of less than ten numbers is lent with ten lengths of 0 and no cells.
-pub fn lend<'a>(table: &'a [u16]) -> LentTable<'a>
+fn lend<'a>(table: &'a [u16]) -> LentTable<'a>
     ensures { λ r. ⌜ (now (r .cells) ≡ cellsOf (now (table .entry))) × (r .lengths ≡ lentLengths (now (table .entry))) ⌝ }
 {
     LentTable {
@@ -51,7 +51,7 @@ fn column_in(cells: &[u16], lengths: [u16; COLUMNS], number: usize) -> &[u16]
 }
 
 // The cells of a lent table's column by its number: the table is taken apart.
-pub fn column_of<'a>(table: LentTable<'a>, number: usize) -> &'a [u16]
+fn column_of<'a>(table: LentTable<'a>, number: usize) -> &'a [u16]
     ensures { λ r. ⌜ now r ≡ lentColumn (now (table .entry .cells)) (table .entry .lengths) number ⌝ }
 {
     column_in(table.cells, table.lengths, number)
