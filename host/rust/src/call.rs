@@ -2,7 +2,7 @@
 //! engine, where its archive is linked.
 
 use crate::parsing::{parse, Entry};
-use crate::refusal::{refuse_if, Refusal};
+use crate::refusal::Refusal;
 use crate::statement;
 use crate::tables::Table;
 
@@ -22,15 +22,14 @@ pub fn account_line(statement: &[u8], table: &[u8], line: &[u8]) -> Result<Vec<u
     let report = holding.apply(&entry, &table)?;
     let mut out = statement::write(&holding);
     if let Some(report) = report {
-        out.extend(format!("{report}\n").bytes());
+        report.write(&mut out);
     }
     Ok(out)
 }
 
 pub fn twin(statement: &[u8], table: &[u8], line: &[u8], out: &mut [u8]) -> i64 {
     let written = account_line(statement, table, line).and_then(|result| {
-        refuse_if(result.len() > out.len(), Refusal::Room)?;
-        out[..result.len()].copy_from_slice(&result);
+        out.get_mut(..result.len()).ok_or(Refusal::Room)?.copy_from_slice(&result);
         Ok(result.len())
     });
     match written {

@@ -9,7 +9,7 @@ pub enum Forest {
     Indigenous,
 }
 
-pub const BARE: &[u8] = b"B";
+pub const BARE: &str = "B";
 
 const CODES: [&str; 13] = ["P1", "P2", "P3", "P4", "P5", "P6", "P7", "P8", "P9", "D", "S", "H", "N"];
 
@@ -36,8 +36,14 @@ impl Forest {
 
     /// The forest type of a code; bare land has none.
     pub fn of_code(code: &[u8]) -> Option<Forest> {
-        let place = CODES.iter().position(|known| known.as_bytes() == code)?;
-        Some(Forest::ALL[place])
+        match code {
+            [b'P', region @ b'1'..=b'9'] => Some(Forest::Radiata { region: region - b'0' }),
+            b"D" => Some(Forest::DouglasFir),
+            b"S" => Some(Forest::Softwoods),
+            b"H" => Some(Forest::Hardwoods),
+            b"N" => Some(Forest::Indigenous),
+            _ => None,
+        }
     }
 
     /// The place among a participant's five columns of a kind: P, D, S, H, N.

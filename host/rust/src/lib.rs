@@ -13,5 +13,6 @@ pub mod schedules;
 pub mod statement;
 pub mod steps;
 pub mod tables;
+pub mod text;
 pub mod trees;
 pub mod units;

@@ -6,7 +6,7 @@ use crate::ranges::BOOK_BYTES;
 use crate::refusal::Refusal;
 use crate::steps::Report;
 use crate::tables::Table;
-use std::fmt::Write;
+use crate::text::push_line;
 
 #[derive(Debug, Default)]
 pub struct Account {
@@ -18,43 +18,45 @@ impl Account {
     /// Takes a line, or refuses it and stays as it was.
     pub fn enter(&mut self, line: &[u8]) -> Result<Option<Report>, Refusal> {
         let entry = parse(line)?;
+        let Entry::Column { column, cells } = &entry else {
+            return self.holding.apply(&entry, &self.table);
+        };
         let mut longer = self.table.clone();
-        if let Entry::Column { column, cells } = &entry {
-            longer.extend(*column, cells)?;
-        }
+        longer.extend(*column, cells)?;
         let report = self.holding.apply(&entry, &self.table)?;
         self.table = longer;
         Ok(report)
     }
 }
 
-pub fn book(book: &[u8]) -> String {
+pub fn book(book: &[u8]) -> Vec<u8> {
+    let mut listing = Vec::new();
     if book.len() > BOOK_BYTES {
-        return "X,0,1\nE,0,1\n".into();
+        push_line(&mut listing, b'X', &[0, 1]);
+        push_line(&mut listing, b'E', &[0, 1]);
+        return listing;
     }
     let mut account = Account::default();
-    let mut listing = String::new();
     let (mut accepted, mut refused) = (0, 0);
-    for (index, line) in lines(book).enumerate() {
+    for (number, line) in (1..).zip(lines(book)) {
         match account.enter(line) {
             Ok(report) => {
                 accepted += 1;
                 if let Some(report) = report {
-                    writeln!(listing, "{report}").expect("a string takes any text");
+                    report.write(&mut listing);
                 }
             }
             Err(refusal) => {
                 refused += 1;
-                let (line, number) = (index + 1, refusal.number());
-                writeln!(listing, "X,{line},{number}").expect("a string takes any text");
+                push_line(&mut listing, b'X', &[number, u64::from(refusal.number())]);
             }
         }
     }
-    listing + &format!("E,{accepted},{refused}\n")
+    push_line(&mut listing, b'E', &[accepted, refused]);
+    listing
 }
 
-/// The lines of a book: a byte 10 at its end adds none.
+/// The lines of a book, each with its end: a byte 10 at the book's end adds none.
 pub fn lines(book: &[u8]) -> impl Iterator<Item = &[u8]> {
-    let lines = if book.is_empty() { None } else { Some(book.strip_suffix(b"\n").unwrap_or(book)) };
-    lines.into_iter().flat_map(|lines| lines.split(|&byte| byte == b'\n'))
+    book.split_inclusive(|&byte| byte == b'\n')
 }

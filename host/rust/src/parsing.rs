@@ -5,6 +5,7 @@ use crate::holding::Trees;
 use crate::ranges::*;
 use crate::refusal::{refuse_if, Refusal};
 use crate::tables::RESIDUE;
+use crate::text;
 use crate::units::tenths_of;
 use std::ops::RangeInclusive;
 
@@ -22,44 +23,55 @@ pub enum Entry {
 pub fn parse(line: &[u8]) -> Result<Entry, Refusal> {
     let line = line.strip_suffix(b"\n").unwrap_or(line);
     refuse_if(line.len() > LINE_BYTES || line.contains(&b'\n'), Refusal::Form)?;
-    let fields: Vec<&[u8]> = line.split(|&byte| byte == b',').collect();
-    match fields.as_slice() {
-        [b"T", kind, forest, cells @ ..] => column_entry(kind, forest, cells),
-        [b"A", area, opening] => open_entry(area, opening),
-        [b"S", area, sub, hectares, forest, planted] => add_entry(area, sub, hectares, forest, planted),
-        [b"C", area, sub, year] => clear_entry(area, sub, year),
-        [b"P", area, sub, forest, year] => plant_entry(area, sub, forest, year),
-        [b"R", area, last] => return_entry(area, last),
-        [b"W", area] => Ok(Entry::Withdraw { area: number_in(AREA_NUMBERS, number(area)?)? }),
+    let mut fields = line.split(|&byte| byte == b',');
+    match fields.next() {
+        Some(b"T") => column_entry(fields),
+        Some(b"A") => open_entry(just(fields)?),
+        Some(b"S") => add_entry(just(fields)?),
+        Some(b"C") => clear_entry(just(fields)?),
+        Some(b"P") => plant_entry(just(fields)?),
+        Some(b"R") => return_entry(just(fields)?),
+        Some(b"W") => withdraw_entry(just(fields)?),
         _ => Err(Refusal::Form),
     }
 }
 
-fn column_entry(kind: &[u8], forest: &[u8], cells: &[&[u8]]) -> Result<Entry, Refusal> {
-    let first = match kind {
-        b"G" => 0,
-        b"R" => RESIDUE,
-        _ => return Err(Refusal::Form),
-    };
-    refuse_if(cells.is_empty(), Refusal::Form)?;
-    let cells: Vec<u64> = cells.iter().map(|cell| cell_tenths(cell)).collect::<Result<_, _>>()?;
-    let group = [b"P", b"D", b"S", b"H", b"N"].iter().position(|code| *code == forest);
-    let column = first + group.ok_or(Refusal::Type)?;
-    let too_large = cells.iter().any(|&cell| cell > MOST_TENTHS_OF_A_CELL);
-    refuse_if(cells.len() > MOST_CELLS || too_large, Refusal::Table)?;
-    Ok(Entry::Column { column, cells: cells.into_iter().map(|cell| cell as u16).collect() })
+/// The fields, which must be just so many.
+fn just<'a, const N: usize>(mut fields: impl Iterator<Item = &'a [u8]>) -> Result<[&'a [u8]; N], Refusal> {
+    let mut all: [&[u8]; N] = [&[]; N];
+    for field in &mut all {
+        *field = fields.next().ok_or(Refusal::Form)?;
+    }
+    refuse_if(fields.next().is_some(), Refusal::Form)?;
+    Ok(all)
 }
 
-fn open_entry(area: &[u8], opening: &[u8]) -> Result<Entry, Refusal> {
+fn column_entry<'a>(mut fields: impl Iterator<Item = &'a [u8]>) -> Result<Entry, Refusal> {
+    let first = match fields.next() {
+        Some(b"G") => 0,
+        Some(b"R") => RESIDUE,
+        _ => return Err(Refusal::Form),
+    };
+    let forest = fields.next().ok_or(Refusal::Form)?;
+    let cells: Vec<u16> = fields.map(cell_tenths).collect::<Result<_, _>>()?;
+    refuse_if(cells.is_empty(), Refusal::Form)?;
+    let group = [b"P", b"D", b"S", b"H", b"N"].iter().position(|code| *code == forest);
+    let column = first + group.ok_or(Refusal::Type)?;
+    let too_large = cells.iter().any(|&cell| u64::from(cell) > MOST_TENTHS_OF_A_CELL);
+    refuse_if(cells.len() > MOST_CELLS || too_large, Refusal::Table)?;
+    Ok(Entry::Column { column, cells })
+}
+
+fn open_entry([area, opening]: [&[u8]; 2]) -> Result<Entry, Refusal> {
     let (area, opening) = (number(area)?, number(opening)?);
     Ok(Entry::Open { area: number_in(AREA_NUMBERS, area)?, opening: year_in(ENTRY_YEARS, opening)? })
 }
 
-fn add_entry(area: &[u8], sub: &[u8], hectares: &[u8], forest: &[u8], planted: &[u8]) -> Result<Entry, Refusal> {
+fn add_entry([area, sub, hectares, forest, planted]: [&[u8]; 5]) -> Result<Entry, Refusal> {
     let (area, sub) = (number(area)?, number(sub)?);
     let (hectares, planted) = (ten_thousandths(hectares)?, number(planted)?);
     let (area, sub) = (number_in(AREA_NUMBERS, area)?, number_in(SUB_NUMBERS, sub)?);
-    let forest = if forest == BARE { None } else { Some(listed(forest)?) };
+    let forest = if forest == BARE.as_bytes() { None } else { Some(listed(forest)?) };
     refuse_if(!TEN_THOUSANDTHS.contains(&hectares), Refusal::Hectares)?;
     let trees = match forest {
         None => {
@@ -71,22 +83,26 @@ fn add_entry(area: &[u8], sub: &[u8], hectares: &[u8], forest: &[u8], planted: &
     Ok(Entry::Add { area, sub, tenths: tenths_of(hectares), trees })
 }
 
-fn clear_entry(area: &[u8], sub: &[u8], year: &[u8]) -> Result<Entry, Refusal> {
+fn clear_entry([area, sub, year]: [&[u8]; 3]) -> Result<Entry, Refusal> {
     let (area, sub, year) = (number(area)?, number(sub)?, number(year)?);
     let (area, sub) = (number_in(AREA_NUMBERS, area)?, number_in(SUB_NUMBERS, sub)?);
     Ok(Entry::Clear { area, sub, year: year_in(ENTRY_YEARS, year)? })
 }
 
-fn plant_entry(area: &[u8], sub: &[u8], forest: &[u8], year: &[u8]) -> Result<Entry, Refusal> {
+fn plant_entry([area, sub, forest, year]: [&[u8]; 4]) -> Result<Entry, Refusal> {
     let (area, sub, year) = (number(area)?, number(sub)?, number(year)?);
     let (area, sub) = (number_in(AREA_NUMBERS, area)?, number_in(SUB_NUMBERS, sub)?);
     let forest = listed(forest)?;
     Ok(Entry::Plant { area, sub, trees: Trees { forest, planted: year_in(ENTRY_YEARS, year)? } })
 }
 
-fn return_entry(area: &[u8], last: &[u8]) -> Result<Entry, Refusal> {
+fn return_entry([area, last]: [&[u8]; 2]) -> Result<Entry, Refusal> {
     let (area, last) = (number(area)?, number(last)?);
     Ok(Entry::Return { area: number_in(AREA_NUMBERS, area)?, last: year_in(ENTRY_YEARS, last)? })
+}
+
+fn withdraw_entry([area]: [&[u8]; 1]) -> Result<Entry, Refusal> {
+    Ok(Entry::Withdraw { area: number_in(AREA_NUMBERS, number(area)?)? })
 }
 
 fn number_in(range: RangeInclusive<u64>, number: u64) -> Result<u64, Refusal> {
@@ -103,33 +119,32 @@ fn listed(forest: &[u8]) -> Result<Forest, Refusal> {
     Forest::of_code(forest).ok_or(Refusal::Type)
 }
 
-/// Digits without a zero in front, of any length: what is too large for 64 bits stays at their greatest number.
 fn number(field: &[u8]) -> Result<u64, Refusal> {
-    let leading_zero = field.len() > 1 && field[0] == b'0';
-    let formed = !field.is_empty() && field.iter().all(u8::is_ascii_digit) && !leading_zero;
-    refuse_if(!formed, Refusal::Form)?;
-    Ok(digits_value(field))
-}
-
-fn digits_value(digits: &[u8]) -> u64 {
-    digits.iter().fold(0, |value: u64, digit| value.saturating_mul(10).saturating_add(u64::from(digit - b'0')))
+    text::number(field).ok_or(Refusal::Form)
 }
 
 /// A number with at most so many decimals, as a count of the last of them.
 fn decimal(field: &[u8], decimals: usize) -> Result<u64, Refusal> {
-    let scale = 10u64.pow(decimals as u32);
-    let Some(point) = field.iter().position(|&byte| byte == b'.') else {
-        return Ok(number(field)?.saturating_mul(scale));
+    let (whole, behind) = text::split_number(field).ok_or(Refusal::Form)?;
+    let fraction = match behind {
+        [] => 0,
+        [b'.', digits @ ..] => fraction(digits, decimals)?,
+        _ => return Err(Refusal::Form),
     };
-    let (whole, fraction) = (&field[..point], &field[point + 1..]);
-    let formed = (1..=decimals).contains(&fraction.len()) && fraction.iter().all(u8::is_ascii_digit);
-    refuse_if(!formed, Refusal::Form)?;
-    let unit = 10u64.pow((decimals - fraction.len()) as u32);
-    Ok(number(whole)?.saturating_mul(scale).saturating_add(digits_value(fraction) * unit))
+    Ok(whole.saturating_mul(10u64.pow(decimals as u32)).saturating_add(fraction))
 }
 
-fn cell_tenths(field: &[u8]) -> Result<u64, Refusal> {
-    decimal(field, 1)
+fn fraction(digits: &[u8], decimals: usize) -> Result<u64, Refusal> {
+    let formed = (1..=decimals).contains(&digits.len()) && digits.iter().all(u8::is_ascii_digit);
+    refuse_if(!formed, Refusal::Form)?;
+    let value = digits.iter().fold(0, |value, digit| 10 * value + u64::from(digit - b'0'));
+    Ok(value * 10u64.pow((decimals - digits.len()) as u32))
+}
+
+/// What is too large for 16 bits stays at their greatest number, which is over the range.
+fn cell_tenths(field: &[u8]) -> Result<u16, Refusal> {
+    let tenths = decimal(field, 1)?;
+    Ok(u16::try_from(tenths).unwrap_or(u16::MAX))
 }
 
 /// Up to six digits, then optionally a point and one to four digits.

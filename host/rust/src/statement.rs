@@ -1,126 +1,172 @@
-//! The carried statement. The reader takes the fields loosely, judges them, and then wants the bytes to be just those
-//! that the writer gives.
+//! The carried statement. The reader takes only "the writer's" bytes, and of these only what keeps the ranges.
 
 use crate::forest::{Forest, BARE};
 use crate::holding::{Area, Holding, Residue, Sub, Trees};
 use crate::ranges::*;
-use crate::refusal::{refuse_if, Refusal};
-use std::fmt::Write;
+use crate::refusal::Refusal;
+use crate::text::{push_line, push_numbers, split_number};
+
+/// The longest lines, and the longest report behind them: room for them is reserved at once.
+const HEAD_BYTES: usize = "H,16\n".len();
+const AREA_BYTES: usize = "A,999,2008,2200,2199,1,192,960000000000,192000000000,192000000000,16\n".len();
+const SUB_BYTES: usize = "S,99,100000,P9,2199,P9,299,2199\n".len();
+const REPORT_BYTES: usize = "R,999,2008,2199,-960000000,960000000,960000000,192000000000\n".len();
 
 pub fn write(holding: &Holding) -> Vec<u8> {
-    let mut text = format!("H,{}\n", holding.areas.len());
+    let subs: usize = holding.areas.iter().map(|area| area.subs.len()).sum();
+    let lines = HEAD_BYTES + holding.areas.len() * AREA_BYTES + subs * SUB_BYTES;
+    let mut text = Vec::with_capacity(lines + REPORT_BYTES);
+    push_line(&mut text, b'H', &[holding.areas.len() as u64]);
     for area in &holding.areas {
         write_area(&mut text, area);
         for sub in &area.subs {
             write_sub(&mut text, sub);
         }
     }
-    text.into_bytes()
+    text
 }
 
-fn write_area(text: &mut String, area: &Area) {
-    let Area { number, opening, open_year, latest_year, withdrawn, returns, .. } = area;
-    let Area { stock, received, surrendered, subs, .. } = area;
-    let (withdrawn, subs) = (u8::from(*withdrawn), subs.len());
-    writeln!(
-        text,
-        "A,{number},{opening},{open_year},{latest_year},{withdrawn},{returns},{stock},{received},{surrendered},{subs}"
-    )
-    .expect("a string takes any text");
+fn write_area(text: &mut Vec<u8>, area: &Area) {
+    text.push(b'A');
+    push_numbers(text, &[area.number, area.opening, area.open_year, area.latest_year]);
+    push_numbers(text, &[u64::from(area.withdrawn), area.returns]);
+    push_numbers(text, &[area.stock, area.received, area.surrendered, area.subs.len() as u64]);
+    text.push(b'\n');
 }
 
-fn write_sub(text: &mut String, sub: &Sub) {
-    let Sub { number, tenths, .. } = sub;
-    let (forest, planted) = sub.trees.map_or(("B", 0), |trees| (trees.forest.code(), trees.planted));
+/// "no trees B,0; no residue B,0,0"
+fn write_sub(text: &mut Vec<u8>, sub: &Sub) {
+    let (forest, planted) = sub.trees.map_or((BARE, 0), |trees| (trees.forest.code(), trees.planted));
     let (left, age, year) =
-        sub.residue.map_or(("B", 0, 0), |residue| (residue.forest.code(), residue.age, residue.year));
-    writeln!(text, "S,{number},{tenths},{forest},{planted},{left},{age},{year}").expect("a string takes any text");
+        sub.residue.map_or((BARE, 0, 0), |residue| (residue.forest.code(), residue.age, residue.year));
+    text.push(b'S');
+    push_numbers(text, &[sub.number, sub.tenths]);
+    push_code(text, forest);
+    push_numbers(text, &[planted]);
+    push_code(text, left);
+    push_numbers(text, &[age, year]);
+    text.push(b'\n');
+}
+
+fn push_code(text: &mut Vec<u8>, code: &str) {
+    text.push(b',');
+    text.extend_from_slice(code.as_bytes());
 }
 
 pub fn read(bytes: &[u8]) -> Result<Holding, Refusal> {
-    let holding = scan(bytes).ok_or(Refusal::Statement)?;
-    let taken = carried(&holding) && write(&holding) == bytes;
-    refuse_if(!taken, Refusal::Statement)?;
-    Ok(holding)
+    scan(bytes).filter(carried).ok_or(Refusal::Statement)
 }
 
 fn scan(bytes: &[u8]) -> Option<Holding> {
-    let mut lines = bytes.split(|&byte| byte == b'\n').map(|line| fields(line));
-    let areas = match lines.next()?.as_slice() {
-        [b"H", areas] => count(areas, MOST_AREAS)?,
-        _ => return None,
-    };
-    let mut holding = Holding::default();
-    for _ in 0..areas {
-        let (mut area, subs) = scan_area(&lines.next()?)?;
-        for _ in 0..subs {
-            area.subs.push(scan_sub(&lines.next()?)?);
-        }
-        holding.areas.push(area);
+    let mut fields = Fields { rest: bytes };
+    fields.skip(b"H,")?;
+    let count = fields.last_count(MOST_AREAS)?;
+    let mut areas = Vec::with_capacity(count);
+    for _ in 0..count {
+        areas.push(scan_area(&mut fields)?);
     }
-    Some(holding)
+    fields.rest.is_empty().then_some(Holding { areas })
 }
 
-fn fields(line: &[u8]) -> Vec<&[u8]> {
-    line.split(|&byte| byte == b',').collect()
-}
-
-fn number(field: &[u8]) -> Option<u64> {
-    std::str::from_utf8(field).ok()?.parse().ok()
-}
-
-fn count(field: &[u8], most: usize) -> Option<usize> {
-    let count = number(field)? as usize;
-    (count <= most).then_some(count)
-}
-
-fn scan_area(fields: &[&[u8]]) -> Option<(Area, usize)> {
-    let [b"A", numbers @ .., subs] = fields else {
-        return None;
+fn scan_area(fields: &mut Fields) -> Option<Area> {
+    fields.skip(b"A,")?;
+    let mut area = Area {
+        number: fields.number()?,
+        opening: fields.number()?,
+        open_year: fields.number()?,
+        latest_year: fields.number()?,
+        withdrawn: fields.flag()?,
+        returns: fields.number()?,
+        stock: fields.number()?,
+        received: fields.number()?,
+        surrendered: fields.number()?,
+        subs: Vec::new(),
     };
-    let numbers: Vec<u64> = numbers.iter().map(|field| number(field)).collect::<Option<_>>()?;
-    let [number, opening, open_year, latest_year, withdrawn, returns, stock, received, surrendered] =
-        numbers.try_into().ok()?;
-    let withdrawn = withdrawn == 1;
-    let kept = Area { number, opening, open_year, latest_year, withdrawn, ..Area::default() };
-    let area = Area { returns, stock, received, surrendered, ..kept };
-    Some((area, count(subs, MOST_SUBS)?))
+    let count = fields.last_count(MOST_SUBS)?;
+    area.subs.reserve_exact(count);
+    for _ in 0..count {
+        area.subs.push(scan_sub(fields)?);
+    }
+    Some(area)
 }
 
-fn scan_sub(fields: &[&[u8]]) -> Option<Sub> {
-    let [b"S", own, tenths, forest, planted, residue_forest, age, year] = fields else {
+fn scan_sub(fields: &mut Fields) -> Option<Sub> {
+    fields.skip(b"S,")?;
+    let (number, tenths) = (fields.number()?, fields.number()?);
+    let (forest, planted) = (fields.forest()?, fields.number()?);
+    let (left, age, year) = (fields.forest()?, fields.number()?, fields.last_number()?);
+    if (forest.is_none() && planted != 0) || (left.is_none() && (age, year) != (0, 0)) {
         return None;
-    };
-    let (planted, age, year) = (number(planted)?, number(age)?, number(year)?);
-    let trees = scan_forest(forest)?.map(|forest| Trees { forest, planted });
-    let residue = scan_forest(residue_forest)?.map(|forest| Residue { forest, age, year });
-    Some(Sub { number: number(own)?, tenths: number(tenths)?, trees, residue })
+    }
+    let trees = forest.map(|forest| Trees { forest, planted });
+    let residue = left.map(|forest| Residue { forest, age, year });
+    Some(Sub { number, tenths, trees, residue })
 }
 
-fn scan_forest(code: &[u8]) -> Option<Option<Forest>> {
-    if code == BARE {
-        Some(None)
-    } else {
-        Forest::of_code(code).map(Some)
+/// What is left of a statement. A comma ends a field, and byte 10 the last field of a line: "every line ends with byte
+/// 10".
+struct Fields<'a> {
+    rest: &'a [u8],
+}
+
+impl Fields<'_> {
+    fn skip(&mut self, bytes: &[u8]) -> Option<()> {
+        self.rest = self.rest.strip_prefix(bytes)?;
+        Some(())
+    }
+
+    fn number_ended_by(&mut self, end: u8) -> Option<u64> {
+        let (number, behind) = split_number(self.rest)?;
+        self.rest = behind;
+        self.skip(&[end])?;
+        Some(number)
+    }
+
+    fn number(&mut self) -> Option<u64> {
+        self.number_ended_by(b',')
+    }
+
+    fn last_number(&mut self) -> Option<u64> {
+        self.number_ended_by(b'\n')
+    }
+
+    fn last_count(&mut self, most: usize) -> Option<usize> {
+        let count = usize::try_from(self.last_number()?).ok()?;
+        (count <= most).then_some(count)
+    }
+
+    fn flag(&mut self) -> Option<bool> {
+        match self.number()? {
+            0 => Some(false),
+            1 => Some(true),
+            _ => None,
+        }
+    }
+
+    /// A forest type, or none where the land is bare.
+    fn forest(&mut self) -> Option<Option<Forest>> {
+        let length = self.rest.iter().position(|&byte| byte == b',')?;
+        let (code, behind) = self.rest.split_at(length);
+        self.rest = behind;
+        self.skip(b",")?;
+        if code == BARE.as_bytes() {
+            Some(None)
+        } else {
+            Forest::of_code(code).map(Some)
+        }
     }
 }
 
 /// Whether a statement carries the holding: the ranges of document 01.
 pub fn carried(holding: &Holding) -> bool {
     holding.areas.len() <= MOST_AREAS
-        && distinct(holding.areas.iter().map(|area| area.number))
+        && distinct(&holding.areas, |area| area.number)
         && holding.areas.iter().all(carried_area)
 }
 
-fn distinct(numbers: impl Iterator<Item = u64>) -> bool {
-    let mut seen = Vec::new();
-    for number in numbers {
-        if seen.contains(&number) {
-            return false;
-        }
-        seen.push(number);
-    }
-    true
+/// There are at most sixteen, so that each is held against those before it.
+fn distinct<T>(items: &[T], number: impl Fn(&T) -> u64) -> bool {
+    items.iter().enumerate().all(|(place, item)| items[..place].iter().all(|earlier| number(earlier) != number(item)))
 }
 
 fn carried_area(area: &Area) -> bool {
@@ -141,7 +187,7 @@ fn carried_area(area: &Area) -> bool {
         && returns()
         && amounts()
         && subs <= MOST_SUBS
-        && distinct(area.subs.iter().map(|sub| sub.number))
+        && distinct(&area.subs, |sub| sub.number)
         && area.subs.iter().all(|sub| carried_sub(area, sub))
 }
 

@@ -5,8 +5,8 @@ use crate::parsing::Entry;
 use crate::ranges::{MOST_AREAS, MOST_SUBS};
 use crate::refusal::{refuse_if, Refusal};
 use crate::tables::Table;
+use crate::text::{push_line, push_number, push_numbers};
 use crate::units::tonnes_of;
-use std::fmt;
 
 /// What a return or a withdrawal reports, as `book` prints it.
 #[derive(Debug, Clone, Copy, PartialEq, Eq)]
@@ -15,13 +15,18 @@ pub enum Report {
     Withdrawal { area: u64, due: u64 },
 }
 
-impl fmt::Display for Report {
-    fn fmt(&self, f: &mut fmt::Formatter<'_>) -> fmt::Result {
-        match self {
+impl Report {
+    pub fn write(&self, text: &mut Vec<u8>) {
+        match *self {
             Report::Return { area, first, last, change, received, due, balance } => {
-                write!(f, "R,{area},{first},{last},{change},{received},{due},{balance}")
+                text.push(b'R');
+                push_numbers(text, &[area, first, last]);
+                text.extend_from_slice(if change < 0 { b",-" } else { b"," });
+                push_number(text, change.unsigned_abs());
+                push_numbers(text, &[received, due, balance]);
+                text.push(b'\n');
             }
-            Report::Withdrawal { area, due } => write!(f, "W,{area},{due}"),
+            Report::Withdrawal { area, due } => push_line(text, b'W', &[area, due]),
         }
     }
 }

@@ -8,7 +8,10 @@ use crate::schedules::{look_up, schedules};
 
 #[derive(Debug, Default, Clone, PartialEq, Eq)]
 pub struct Table {
-    columns: [Vec<u16>; COLUMNS],
+    /// Where each column ends among the cells.
+    ends: [usize; COLUMNS],
+    /// The columns joined.
+    cells: Vec<u16>,
 }
 
 pub const RESIDUE: usize = COLUMNS / 2;
@@ -16,59 +19,70 @@ pub const RESIDUE: usize = COLUMNS / 2;
 impl Table {
     /// The table of the lent bytes, two to a number, low byte first. No bytes are no table.
     pub fn from_bytes(bytes: &[u8]) -> Result<Table, Refusal> {
-        let pairs = bytes.chunks_exact(2);
-        refuse_if(!pairs.remainder().is_empty(), Refusal::Table)?;
-        let numbers: Vec<u16> = pairs.map(|pair| u16::from_le_bytes([pair[0], pair[1]])).collect();
-        Table::from_numbers(&numbers)
-    }
-
-    fn from_numbers(numbers: &[u16]) -> Result<Table, Refusal> {
-        let mut table = Table::default();
+        let (numbers, odd) = bytes.as_chunks::<2>();
+        refuse_if(!odd.is_empty(), Refusal::Table)?;
         if numbers.is_empty() {
-            return Ok(table);
+            return Ok(Table::default());
         }
-        refuse_if(numbers.len() < COLUMNS, Refusal::Table)?;
-        let (lengths, mut cells) = numbers.split_at(COLUMNS);
-        for (column, &length) in table.columns.iter_mut().zip(lengths) {
-            let length = usize::from(length);
-            refuse_if(length > MOST_CELLS || length > cells.len(), Refusal::Table)?;
-            let (own, later) = cells.split_at(length);
-            *column = own.to_vec();
-            cells = later;
+        let (lengths, cells) = numbers.split_at_checked(COLUMNS).ok_or(Refusal::Table)?;
+        let mut ends = [0; COLUMNS];
+        let mut end = 0;
+        for (column, &length) in ends.iter_mut().zip(lengths) {
+            let length = usize::from(u16::from_le_bytes(length));
+            refuse_if(length > MOST_CELLS, Refusal::Table)?;
+            end += length;
+            *column = end;
         }
-        refuse_if(!cells.is_empty(), Refusal::Table)?;
-        let mut all = table.columns.iter().flatten();
-        refuse_if(all.any(|&cell| u64::from(cell) > MOST_TENTHS_OF_A_CELL), Refusal::Table)?;
-        Ok(table)
+        let cells: Vec<u16> = cells.iter().map(|&cell| u16::from_le_bytes(cell)).collect();
+        refuse_if(cells.len() != end || !cells.iter().all(in_range), Refusal::Table)?;
+        Ok(Table { ends, cells })
     }
 
     pub fn to_bytes(&self) -> Vec<u8> {
-        let lengths = self.columns.iter().map(|column| column.len() as u16);
-        let cells = self.columns.iter().flatten().copied();
-        lengths.chain(cells).flat_map(u16::to_le_bytes).collect()
+        let mut bytes = Vec::with_capacity(2 * (COLUMNS + self.cells.len()));
+        for column in 0..COLUMNS {
+            let length = self.column(column).len() as u16;
+            bytes.extend_from_slice(&length.to_le_bytes());
+        }
+        for cell in &self.cells {
+            bytes.extend_from_slice(&cell.to_le_bytes());
+        }
+        bytes
     }
 
     /// Takes the cells of a T entry, unless its column or a later one already has cells.
     pub fn extend(&mut self, column: usize, cells: &[u16]) -> Result<(), Refusal> {
-        let taken = self.columns[column..].iter().any(|later| !later.is_empty());
-        refuse_if(taken, Refusal::Table)?;
-        self.columns[column] = cells.to_vec();
+        refuse_if(self.start(column) < self.cells.len(), Refusal::Table)?;
+        self.cells.extend_from_slice(cells);
+        self.ends[column..].fill(self.cells.len());
         Ok(())
     }
 
+    fn start(&self, column: usize) -> usize {
+        column.checked_sub(1).map_or(0, |before| self.ends[before])
+    }
+
+    fn column(&self, column: usize) -> &[u16] {
+        &self.cells[self.start(column)..self.ends[column]]
+    }
+
     pub fn stock_cell(&self, forest: Forest, age: u64) -> u64 {
-        match self.columns[forest.group()].as_slice() {
+        match self.column(forest.group()) {
             [] => schedules().stock(forest).at(age),
             own => look_up(0, own, age),
         }
     }
 
     pub fn residue_cell(&self, forest: Forest, age: u64) -> u64 {
-        match self.columns[RESIDUE + forest.group()].as_slice() {
+        match self.column(RESIDUE + forest.group()) {
             [] => schedules().residue(forest).at(age),
             own => look_up(0, own, age),
         }
     }
+}
+
+fn in_range(cell: &u16) -> bool {
+    u64::from(*cell) <= MOST_TENTHS_OF_A_CELL
 }
 
 #[cfg(test)]

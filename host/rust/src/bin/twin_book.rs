@@ -5,5 +5,5 @@ use std::io::{Read, Result, Write};
 fn main() -> Result<()> {
     let mut book = Vec::new();
     std::io::stdin().read_to_end(&mut book)?;
-    std::io::stdout().write_all(carbon_twin::listing::book(&book).as_bytes())
+    std::io::stdout().write_all(&carbon_twin::listing::book(&book))
 }

@@ -1,7 +1,7 @@
 //! The examples of document 01 and of the guide's section 6, as a book and as calls.
 
 use crate::common::{calls, Recorder};
-use carbon_twin::listing::book;
+use carbon_twin::listing;
 
 const PRINTED_BOOK: &str = "T,G,D,0,1,4.5,10,20
 T,R,D,0,0.5,2,5,8
@@ -23,6 +23,10 @@ X,10,28
 W,7,90
 E,10,1
 ";
+
+fn book(text: &[u8]) -> String {
+    String::from_utf8(listing::book(text)).expect("a listing is text")
+}
 
 #[test]
 fn the_printed_book() {

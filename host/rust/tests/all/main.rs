@@ -4,4 +4,5 @@ mod common;
 mod document;
 mod land;
 mod refusals;
+mod statement_forms;
 mod statements;

@@ -1,11 +1,11 @@
-//! Which statements are read: each condition of document 01 at its edge.
+//! Which statements are read: each condition of document 01 at its edge. Their form is tried further in statement_forms.
 
 use crate::common::{answer, calls};
 use carbon_twin::holding::{Area, Holding, Residue, Sub, Trees};
 use carbon_twin::{forest::Forest, statement};
 
 /// Whether the statement is read, by every call alike. What is read is written back, with the area that is opened.
-fn is_read(text: &str) -> bool {
+pub fn is_read(text: &str) -> bool {
     let read = statement::read(text.as_bytes());
     for (name, call) in calls() {
         let answer = answer(call, text.as_bytes(), &[], b"A,900,2199");
@@ -24,11 +24,11 @@ fn with_one_more(text: &str, areas: usize) -> String {
     format!("H,{}\n{rest}A,900,2199,2199,0,0,0,0,0,0,0\n", areas + 1)
 }
 
-fn area(fields: &str) -> String {
+pub fn area(fields: &str) -> String {
     format!("H,1\nA,{fields}\n")
 }
 
-fn sub(latest: u64, fields: &str) -> String {
+pub fn sub(latest: u64, fields: &str) -> String {
     format!("H,1\nA,7,2010,2010,{latest},0,0,0,0,0,1\nS,{fields}\n")
 }
 

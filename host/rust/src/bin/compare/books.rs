@@ -13,11 +13,10 @@ pub fn compare(program: &str, books: u64, seed: u64) -> Result<String, String> {
         let text = a_book(&mut random);
         let printed = run(program, &text).map_err(|problem| format!("{program}: {problem}"))?;
         let expected = book(&text);
-        if printed != expected.as_bytes() {
-            let (text, printed) = (text.escape_ascii(), printed.escape_ascii());
+        if printed != expected {
+            let (text, printed, expected) = (text.escape_ascii(), printed.escape_ascii(), expected.escape_ascii());
             return Err(format!(
-                "book {number} of seed {seed} differs\n  book     \"{text}\"\n  printed  \"{printed}\"\n  expected \"{}\"",
-                expected.escape_default()
+                "book {number} of seed {seed} differs\n  book     \"{text}\"\n  printed  \"{printed}\"\n  expected \"{expected}\""
             ));
         }
     }
