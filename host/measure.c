@@ -1,7 +1,11 @@
-/* How much one call costs: measure HOLDING LINE TIMES makes the holding, then makes the call that many times; `measure stack` prints the deepest
- * stack of the calls. Instructions are counted from outside, by callgrind. */
+/* How much one call costs. A HOLDING is empty, small (1x4), full (16x16), or so many areas of so many sub-areas each: 4x16.
+ *   measure HOLDING LINE TIMES   makes the holding, then makes the call that many times; callgrind counts from outside
+ *   measure length HOLDING       prints the length of its statement
+ *   measure stack AREAS          prints the deepest stack of calls on so many areas of sixteen sub-areas
+ */
 #define _GNU_SOURCE
 #include <pthread.h>
+#include <stdbool.h>
 #include <stdint.h>
 #include <stdio.h>
 #include <stdlib.h>
@@ -9,15 +13,34 @@
 
 #include "carbon_account.h"
 
-enum { STACK_BYTES = 1 << 20, PAINT = 0xA5 };
+enum { STACK_BYTES = 1 << 20, PAINT = 0xA5, MOST_AREAS = 16, MOST_SUBS = 16 };
 
 static uint8_t statement[CARBON_OUT_BYTES] = "H,0\n";
 static size_t statement_len = 4;
 static uint8_t out[CARBON_OUT_BYTES];
 
+static int usage(void)
+{
+    fprintf(stderr, "measure HOLDING LINE TIMES, measure length HOLDING, or measure stack AREAS\n");
+    return 2;
+}
+
+static int64_t call_into(const char *line, size_t room)
+{
+    return carbon_account_line(statement, statement_len, statement, 0, (const uint8_t *)line, strlen(line), out, room);
+}
+
 static int64_t call(const char *line)
 {
-    return carbon_account_line(statement, statement_len, statement, 0, (const uint8_t *)line, strlen(line), out, sizeof out);
+    return call_into(line, sizeof out);
+}
+
+static void want(const char *line, bool wanted, int64_t answer)
+{
+    if (!wanted) {
+        fprintf(stderr, "%s: %lld\n", line, (long long)answer);
+        exit(1);
+    }
 }
 
 /* The statement is the output up to the line that the call prints, which starts with R or W. */
@@ -32,48 +55,72 @@ static size_t statement_part(size_t written)
 static void take(const char *line)
 {
     int64_t written = call(line);
-    if (written < 0) {
-        fprintf(stderr, "%s: %lld\n", line, (long long)written);
-        exit(1);
-    }
+    want(line, written > 0, written);
     statement_len = statement_part((size_t)written);
     memcpy(statement, out, statement_len);
 }
 
-static void make_holding(int areas, int subs)
+/* Where the room is less than CARBON_OUT_BYTES, the call measures before it writes: the line is refused where a byte is
+ * missing, and taken where none is. */
+static void call_measured(const char *line)
+{
+    int64_t written = call(line);
+    want(line, written > 0, written);
+    int64_t refused = call_into(line, (size_t)written - 1);
+    want(line, refused == -CARBON_ROOM, refused);
+    int64_t taken = call_into(line, (size_t)written);
+    want(line, taken == written, taken);
+}
+
+static void take_measured(const char *line)
+{
+    call_measured(line);
+    take(line);
+}
+
+static void make_holding(int areas, int subs, void (*enter)(const char *line))
 {
     char line[64];
     for (int area = 1; area <= areas; area++) {
         snprintf(line, sizeof line, "A,%d,2008", area);
-        take(line);
+        enter(line);
         for (int sub = 1; sub <= subs; sub++) {
             snprintf(line, sizeof line, "S,%d,%d,1234.5678,P1,1990", area, sub);
-            take(line);
+            enter(line);
         }
     }
 }
 
-static void make_named(const char *name)
+static bool make_named(const char *name)
 {
+    int areas = 0, subs = 0;
+    char behind;
     if (strcmp(name, "small") == 0)
-        make_holding(1, 4);
+        areas = 1, subs = 4;
     else if (strcmp(name, "full") == 0)
-        make_holding(16, 16);
+        areas = MOST_AREAS, subs = MOST_SUBS;
+    else if (strcmp(name, "empty") != 0 && sscanf(name, "%dx%d%c", &areas, &subs, &behind) != 2)
+        return false;
+    make_holding(areas, subs, take);
+    return true;
 }
 
-static void *deepest(void *unused)
+/* T on the empty holding, A and S to fill it, and each other letter on its last area. */
+static void *deepest(void *areas)
 {
-    (void)unused;
-    make_holding(16, 16);
-    take("C,16,16,2012");
-    take("P,16,16,D,2012");
-    take("R,16,2014");
-    take("W,16");
-    call("T,G,P,1");
+    static const char *const lines[] = {"C,%d,%d,2012", "P,%d,%d,D,2012", "R,%d,2014", "W,%d"};
+    int last = *(const int *)areas;
+    call_measured("T,G,P,1");
+    make_holding(last, MOST_SUBS, take_measured);
+    for (size_t i = 0; i < sizeof lines / sizeof *lines; i++) {
+        char line[64];
+        snprintf(line, sizeof line, lines[i], last, MOST_SUBS);
+        take_measured(line);
+    }
     return NULL;
 }
 
-static int measure_stack(void)
+static int measure_stack(int areas)
 {
     uint8_t *stack = aligned_alloc(4096, STACK_BYTES);
     memset(stack, PAINT, STACK_BYTES);
@@ -81,29 +128,40 @@ static int measure_stack(void)
     pthread_t thread;
     pthread_attr_init(&attr);
     pthread_attr_setstack(&attr, stack, STACK_BYTES);
-    if (pthread_create(&thread, &attr, deepest, NULL) != 0)
+    if (pthread_create(&thread, &attr, deepest, &areas) != 0)
         return 1;
     pthread_join(thread, NULL);
     size_t untouched = 0;
     while (untouched < STACK_BYTES && stack[untouched] == PAINT)
         untouched++;
-    printf("stack %zu bytes\n", STACK_BYTES - untouched);
+    printf("%zu\n", STACK_BYTES - untouched);
+    return 0;
+}
+
+static int measure_length(const char *holding)
+{
+    if (!make_named(holding))
+        return usage();
+    printf("%zu\n", statement_len);
+    return 0;
+}
+
+static int make_calls(const char *holding, const char *line, int times)
+{
+    if (!make_named(holding))
+        return usage();
+    while (times-- > 0) {
+        int64_t answer = call(line);
+        want(line, answer > 0, answer);
+    }
     return 0;
 }
 
 int main(int argc, char **argv)
 {
-    if (argc == 2 && strcmp(argv[1], "stack") == 0)
-        return measure_stack();
-    if (argc != 4) {
-        fprintf(stderr, "measure HOLDING LINE TIMES, or measure stack\n");
-        return 2;
-    }
-    make_named(argv[1]);
-    for (int i = atoi(argv[3]); i > 0; i--)
-        if (call(argv[2]) < 0) {
-            fprintf(stderr, "refused\n");
-            return 1;
-        }
-    return 0;
+    if (argc == 3 && strcmp(argv[1], "stack") == 0)
+        return measure_stack(atoi(argv[2]));
+    if (argc == 3 && strcmp(argv[1], "length") == 0)
+        return measure_length(argv[2]);
+    return argc == 4 ? make_calls(argv[1], argv[2], atoi(argv[3])) : usage();
 }
