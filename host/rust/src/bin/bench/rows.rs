@@ -19,6 +19,7 @@ pub fn rows() -> Vec<Row> {
     };
     add("empty holding", held(0, 0), &["A,1,2008", "T,G,D,0,1,4.5,10,20"]);
     add("one area of four sub-areas", held(1, 4), &["C,1,1,2012", "R,1,2012"]);
+    add("four areas of four sub-areas", held(4, 4), &["R,4,2012"]);
     add("sixteen areas of sixteen sub-areas", held(16, 16), &["C,16,16,2012", "R,16,2012", "W,1"]);
     rows
 }
