@@ -120,7 +120,13 @@ static void *deepest(void *areas)
     return NULL;
 }
 
-static int measure_stack(int areas)
+static void *idle(void *unused)
+{
+    return unused;
+}
+
+/* How much of its stack a thread touches. */
+static size_t touched(void *(*run)(void *), void *argument)
 {
     uint8_t *stack = aligned_alloc(4096, STACK_BYTES);
     memset(stack, PAINT, STACK_BYTES);
@@ -128,13 +134,20 @@ static int measure_stack(int areas)
     pthread_t thread;
     pthread_attr_init(&attr);
     pthread_attr_setstack(&attr, stack, STACK_BYTES);
-    if (pthread_create(&thread, &attr, deepest, &areas) != 0)
-        return 1;
+    if (pthread_create(&thread, &attr, run, argument) != 0)
+        exit(1);
     pthread_join(thread, NULL);
     size_t untouched = 0;
     while (untouched < STACK_BYTES && stack[untouched] == PAINT)
         untouched++;
-    printf("%zu\n", STACK_BYTES - untouched);
+    free(stack);
+    return STACK_BYTES - untouched;
+}
+
+/* What the calls take, less what a thread takes that makes none. */
+static int measure_stack(int areas)
+{
+    printf("%zu\n", touched(deepest, &areas) - touched(idle, NULL));
     return 0;
 }
 

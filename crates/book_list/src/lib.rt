@@ -23,6 +23,11 @@ const MOST_FOR_END: usize = START_WIDTH + 2 * LINE_NUMBER;
 // Room for any listing, in bytes: a book's last line may lack its end.
 pub const ROOM: usize = MOST_FOR_BYTE * (LONGEST_BOOK + 1) + MOST_FOR_END;
 
+// How many bytes a short book has at most, and room for any listing of one.
+pub const SHORT_BOOK: usize = 2048;
+
+pub const SHORT_ROOM: usize = MOST_FOR_BYTE * (SHORT_BOOK + 1) + MOST_FOR_END;
+
 // Writes the listing to the front of `out`, in which there is room for any listing: how many bytes it has.
 pub fn list_whole(book: &[u8], out: &mut [u8; ROOM]) -> usize
     ensures { λ r. ⌜ Whole (listingOf (now (book .entry))) (now (out .entry)) (now (out .exit)) r ⌝ }

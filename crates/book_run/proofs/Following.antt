@@ -10,6 +10,7 @@ use Rattle.holding_look.proofs.Laws.{looked-as}
 use Rattle.step_outcome.specs.{Outcome, placedAt, placed}
 use Rattle.book_listing.specs.{lineTaken, parsedTable, ifAccepted, tableAfter, Run, next, printedFor, printed}
 use Rattle.book_find.specs.{Named, namedBy}
+use Rattle.book_find.proofs.Naming.{numbersIn}
 use Rattle.book_run.specs.{lineOutcome, TakesLine}
 use Rattle.book_run.proofs.Turns.{line-taken}
 
@@ -27,9 +28,9 @@ one-or-none Verdict.Accepted a r = omega arith
 one-or-none (Verdict.Refused refusal) a r = omega arith
 
 -- a line taken on the area that was looked up, with the run's own table and the cells of Schedule 6
-module _ (run : Run) (line default : List ℕ) (parsed : Parsed) (names : Named) (found : Found) (area : Area) (numbers : List ℕ) (count : ℕ) (outcome : Outcome)
+module _ (run : Run) (areaNumbers : List ℕ) (i : areaNumbers ≡ numbersIn (run .holding .areas)) (line default : List ℕ) (parsed : Parsed) (names : Named) (found : Found) (area : Area) (numbers : List ℕ) (count : ℕ) (outcome : Outcome)
     (t : TakesLine (run .own) default (record { number = names .number; count = run .holding .count; found = found; area = area }) line numbers count outcome)
-    (p : parsed ≡ entryOf line) (n : names ≡ namedBy (run .holding) parsed) (f : found ≡ names .found) (a : area ≡ areaAt (run .holding) found)
+    (p : parsed ≡ entryOf line) (n : names ≡ namedBy (take (run .holding .count) areaNumbers) parsed) (f : found ≡ names .found) (a : area ≡ areaAt (run .holding) found)
     (d : default ≡ schedule6) where
   abbrev lookedAs : Named → Looked
   lookedAs x = lookedAt (run .holding) (x .number) (x .found)
@@ -38,9 +39,9 @@ module _ (run : Run) (line default : List ℕ) (parsed : Parsed) (names : Named)
       ≡ lineTaken (run .own) (run .holding) line
   taken-is =
       ap (λ (x : Looked). lineOutcome (run .own) default x line) (looked-as (run .holding) (names .number) found (names .found) area f a)
-      ∙ ap (λ (x : Named). lineOutcome (run .own) default (lookedAs x) line) (n ∙ ap (namedBy (run .holding)) p)
-      ∙ ap (λ (l : List ℕ). lineOutcome (run .own) l (lookedAs (namedBy (run .holding) (entryOf line))) line) d
-      ∙ line-taken (run .own) (run .holding) line
+      ∙ ap (λ (x : Named). lineOutcome (run .own) default (lookedAs x) line) (n ∙ ap (namedBy (take (run .holding .count) areaNumbers)) p)
+      ∙ ap (λ (l : List ℕ). lineOutcome (run .own) l (lookedAs (namedBy (take (run .holding .count) areaNumbers) (entryOf line))) line) d
+      ∙ line-taken (run .own) (run .holding) areaNumbers i line
 
   outcome-is : outcome ≡ lineTaken (run .own) (run .holding) line
   outcome-is = t .comes ∙ taken-is

@@ -15,6 +15,7 @@ use Rattle.table_grow.specs.{Grown, longerBy, growable, grownBy}
 use Rattle.table_grow.proofs.Fits.{longer-fits, grown-count, grown-front}
 use Rattle.book_listing.specs.{entryTaken, parsedTaken, lineTaken, parsedTable, ifAccepted}
 use Rattle.book_find.specs.{namedBy}
+use Rattle.book_find.proofs.Naming.{numbersIn, place-in-holding}
 use Rattle.book_run.specs.{columnOutcome, refusalIn, parsedOutcome, lineOutcome, Fronts, Takes, TakesColumn, TakesLine}
 
 -- the table that stands is the front of the array
@@ -95,15 +96,16 @@ module _ (table : List ℕ) (count : ℕ) (h : Stands table count) (default : Li
 
 -- ---- a turn of the fold
 
-module _ (own : List ℕ) (holding : Holding) (line : List ℕ) where
+module _ (own : List ℕ) (holding : Holding) (numbers : List ℕ) (n : numbers ≡ numbersIn (holding .areas)) (line : List ℕ) where
   -- the area that a line names
   abbrev pub lookedFor : Parsed → Looked
-  lookedFor parsed = lookedAt holding (namedBy holding parsed .number) (namedBy holding parsed .found)
+  lookedFor parsed = let names = namedBy (take (holding .count) numbers) parsed in lookedAt holding (names .number) (names .found)
 
   parsed-taken : (parsed : Parsed) → parsedOutcome own schedule6 (lookedFor parsed) line parsed ≡ parsedTaken own holding line parsed
   unfolding parsedOutcome columnOutcome parsedTaken entryTaken applied
   parsed-taken (Parsed.Taken (Entry.Column column)) = refl
-  parsed-taken (Parsed.Taken (Entry.On on)) = refl
+  parsed-taken (Parsed.Taken (Entry.On on)) =
+      ap (λ (found : Found). acted own schedule6 (lookedAt holding (on .area) found) (on .act)) (place-in-holding holding numbers (on .area) n)
   parsed-taken (Parsed.Refused refusal) = refl
 
   pub line-taken : lineOutcome own schedule6 (lookedFor (entryOf line)) line ≡ lineTaken own holding line

@@ -94,13 +94,15 @@ struct Ran {
     refused: u64,
 }
 
-// Runs the lines of a book that is not too long, and puts what each prints.
+// Runs the lines of a book that is not too long, and puts what each prints. The numbers of the areas are kept beside them, so that no line is given the
+// holding.
 fn put_lines(book: &[u8], out: &mut [u8]) -> Ran
     requires { ⌜ length (now book) ≤ longestBook ⌝ }
     ensures { λ r. ⌜ RunOf (linesOf (now (book .entry))) (now (out .entry)) (now (out .exit)) r ⌝ }
 {
     let default = schedules::schedule_six();
     let mut holding = holding::empty_holding();
+    let mut numbers = [0u16; MOST_AREAS];
     let mut table = [0u16; LONGEST_TABLE];
     let mut count: usize = 0;
     let mut accepted: u64 = 0;
@@ -110,7 +112,7 @@ fn put_lines(book: &[u8], out: &mut [u8]) -> Ran
     while i < book.len() {
         let end = text::end_of(book, i, b'\n');
         let parsed = line::parse(&book[i..end]);
-        let names = book_find::find(holding, parsed);
+        let names = book_find::find(&numbers, holding.count, parsed);
         let found = names.found;
         let mut named = holding::empty_area();
         if let Found::At(k) = found {
@@ -142,6 +144,7 @@ fn put_lines(book: &[u8], out: &mut [u8]) -> Ran
             let area = outcome.area;
             if k < MOST_AREAS {
                 holding.areas[k] = area;
+                numbers[k] = area.number;
             }
             holding.count = outcome.count;
         }

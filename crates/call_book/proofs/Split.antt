@@ -10,7 +10,7 @@ use Rattle.statement_format.specs.{startText, numberText, typeText, joined, tex
 use Rattle.statement_format.proofs.Residues.{sub-text}
 use Rattle.step_outcome.specs.{Report}
 use Rattle.book_print.specs.{reportText}
-use Rattle.theorem_round_trips.proofs.Widths.{High, high-digits, high-letters}
+use Rattle.statement_places.proofs.Widths.{High, high-digits, high-letters}
 use Rattle.call_book.specs.{beforeReport, statementIn, reportIn}
 
 -- the scan passes over the bytes, from a line's beginning or from within a line, and then stands at one or within one

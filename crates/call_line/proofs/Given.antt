@@ -1,5 +1,5 @@
 -- What each part of a call answers and leaves, from what the parts below it answered.
-use Rattle.laws.proofs.{ℕ, _-_, _≤_, _≡_, refl, sym, ap, subst, _∙_, not, List, arith, length, take, drop, length-take}
+use Rattle.laws.proofs.{ℕ, _-_, _≤_, _≡_, refl, sym, ap, subst, _∙_, not, List, [], _∷_, _++_, arith, length, take, drop, length-take, length-drop, take-all, leb}
 use lib.Seq.{take-at}
 use Rattle.refusals.specs.{Refusal, Verdict, weighed, weighAll, smallest, smaller, Written, written, bufferAfter}
 use Rattle.refusals.proofs.Laws.{clear-before}
@@ -9,22 +9,27 @@ use Rattle.table.specs.{longestTable, isTable, judged}
 use Rattle.table_bytes.specs.{numbersOf, decodable}
 use Rattle.table_bytes.proofs.Numbers.{number-count, clear-decodable}
 use Rattle.line_entry.specs.{AreaAct, Entry, Parsed}
-use Rattle.line.specs.{entryOf}
-use Rattle.holding.specs.{Area, Holding, Found, findArea}
-use Rattle.holding_look.specs.{Looked, areaAt}
-use Rattle.holding_look.proofs.Laws.{looked-as}
-use Rattle.step_outcome.specs.{Outcome, placed}
+use Rattle.line_column.specs.{columnOf}
+use Rattle.line.specs.{fieldsOf, entryOf, asColumn}
+use Rattle.line.proofs.Columns.{column-entered}
+use Rattle.holding.specs.{Holding, findArea}
+use Rattle.holding_look.specs.{lookedUp}
+use Rattle.step_outcome.specs.{Outcome}
 use Rattle.step.specs.{acted, applied}
-use Rattle.table_grow.specs.{Grown, longerBy, growable, grownBy}
-use Rattle.table_grow.proofs.Fits.{grown-count, grown-front}
-use Rattle.statement.specs.{Read, readOf}
+use Rattle.step.proofs.Placed.{acted-places}
+use Rattle.statement_pass.specs.{Passed, passedOver}
+use Rattle.book_print.specs.{reportText}
+use Rattle.table_extend.specs.{begun, longer, extensible}
+use Rattle.table_grow.specs.{lineColumn, lineCells, longerBy, andThen, growable}
+use Rattle.statement.specs.{readOf}
 use Rattle.book_listing.specs.{entryTaken}
 use Rattle.statement_write.specs.{writable}
-use Rattle.call_output.specs.{tableBytes, reportedBytes}
-use Rattle.call_line.specs.{tableVerdict, entryBytes, withRoom, callVerdict, callBytes, callWeighed, callOutput, Gives, entryVerdict, columnVerdict, stepOutcome, stepVerdict, stepBytes}
+use Rattle.call_output.specs.{tableBytes, changedBytes}
+use Rattle.call_line.specs.{tableVerdict, entryBytes, withRoom, callVerdict, callBytes, callWeighed, callOutput, Gives, verdictIn, countIn, cellsVerdict, stepOutcome, stepVerdict, stepBytes}
 use Rattle.call_line.proofs.Sorts.{columnOutcome}
 use Rattle.call_line.proofs.Tables.{answered-verdict}
 use Rattle.call_line.proofs.Order.{entry-decides, entry-writes}
+use Rattle.call_line.proofs.Bridge.{places-in, changed-statement}
 
 -- ---- bytes under a verdict
 
@@ -122,92 +127,112 @@ table-read table own n e q =
           ∙ take-at (numbersOf table) (drop (length (numbersOf table)) numbers) (n - 0) (omega (arith, counted .1));
     }
 
--- ---- a T entry
+-- no table
+pub no-table : (table : List ℕ) → length table ≡ 0 → (tableVerdict table ≡ Verdict.Accepted) × ([] ≡ numbersOf table)
+unfolding tableVerdict weighed decodable smallest weighAll isTable numbersOf
+no-table [] e = (refl, refl)
+no-table (b ∷ table) e = absurd (omega arith)
 
-module _ (own statement line : List ℕ) (read : Read) (grown : Grown) (v : Verdict) (r : read ≡ readOf statement)
-    (g : grown ≡ grownBy own (read .holding .count) line) (w : v ≡ smaller (read .verdict) (grown .verdict)) where
-  grown-verdict : grown .verdict ≡ growable own (read .holding .count) line
-  unfolding grownBy
-  grown-verdict = ap (λ (x : Grown). x .verdict) g
+-- ---- a column of given cells
 
-  pub column-weighed : v ≡ columnVerdict own statement line
-  unfolding columnVerdict
-  column-weighed =
-      w ∙ ap (smaller (read .verdict)) grown-verdict
-      ∙ ap (λ (x : Read). smaller (x .verdict) (growable own (x .holding .count) line)) r
+verdict-written : (v : Verdict) (numbers : List ℕ) → verdictIn (written v numbers) ≡ v
+unfolding written
+verdict-written Verdict.Accepted numbers = refl
+verdict-written (Verdict.Refused r) numbers = refl
+
+module _ (own statement : List ℕ) (column : ℕ) (cells numbers after : List ℕ) (passed : Passed) (answer : Written) (grown v : Verdict)
+    (long : length numbers ≡ longestTable) (p : passed ≡ passedOver statement 0)
+    (a : answer ≡ written (extensible (begun own) column cells (length numbers)) (longer (begun own) column cells))
+    (k : after ≡ bufferAfter (extensible (begun own) column cells (length numbers)) (longer (begun own) column cells) numbers)
+    (g : grown ≡ weighed (verdictIn answer) (leb 1 (passed .looked .count)) Refusal.TableAfterArea) (w : v ≡ smaller (passed .verdict) grown) where
+  answer-as : answer ≡ written (extensible (begun own) column cells longestTable) (longer (begun own) column cells)
+  answer-as = a ∙ ap (λ (n : ℕ). written (extensible (begun own) column cells n) (longer (begun own) column cells)) long
+
+  grown-as : grown ≡ weighed (extensible (begun own) column cells longestTable) (leb 1 (passed .looked .count)) Refusal.TableAfterArea
+  grown-as =
+      g ∙ ap (λ (x : Verdict). weighed x (leb 1 (passed .looked .count)) Refusal.TableAfterArea)
+      (ap verdictIn answer-as ∙ verdict-written (extensible (begun own) column cells longestTable) (longer (begun own) column cells))
+
+  pub cells-weighed : v ≡ cellsVerdict own statement column cells
+  unfolding cellsVerdict passedOver
+  cells-weighed =
+      w ∙ ap (smaller (passed .verdict)) grown-as
+      ∙ ap (λ (x : Passed). smaller (x .verdict) (weighed (extensible (begun own) column cells longestTable) (leb 1 (x .looked .count)) Refusal.TableAfterArea)) p
 
   module _ (clear : v ≡ Verdict.Accepted) where
-    grown-clear : growable own (read .holding .count) line ≡ Verdict.Accepted
-    grown-clear = sym grown-verdict ∙ smaller-clear (read .verdict) (grown .verdict) (sym w ∙ clear) .1
+    extends : extensible (begun own) column cells longestTable ≡ Verdict.Accepted
+    extends =
+        clear-before _ (leb 1 (passed .looked .count)) Refusal.TableAfterArea (sym grown-as ∙ smaller-clear (passed .verdict) grown (sym w ∙ clear) .1)
 
-    pub column-front : take (grown .count - 0) (grown .numbers) ≡ longerBy own line
-    column-front =
-        let all : grown .count - 0 ≡ grown .count = omega arith in
-        ap (λ (n : ℕ). take n (grown .numbers)) all ∙ grown-front own (read .holding .count) line grown-clear grown g
+    count-as : countIn answer ≡ length (longer (begun own) column cells)
+    unfolding written
+    count-as = ap countIn (answer-as ∙ ap (λ (x : Verdict). written x (longer (begun own) column cells)) extends)
 
-    -- the table stands in front of the numbers, so there are as many
-    pub column-fits : grown .count ≤ length (grown .numbers)
-    column-fits =
-        omega (
-          arith,
-          grown-count own (read .holding .count) line grown-clear grown g,
-          ap length column-front,
-          length-take (grown .count - 0) (grown .numbers),
-        )
+    after-as : after ≡ longer (begun own) column cells ++ drop (length (longer (begun own) column cells)) numbers
+    unfolding bufferAfter
+    after-as =
+        k ∙ ap (λ (n : ℕ). bufferAfter (extensible (begun own) column cells n) (longer (begun own) column cells) numbers) long
+        ∙ ap (λ (x : Verdict). bufferAfter x (longer (begun own) column cells) numbers) extends
+
+    module _ (n : ℕ) (c : n ≡ countIn answer) where
+      pub cells-front : take (n - 0) after ≡ longer (begun own) column cells
+      cells-front =
+          ap (take (n - 0)) after-as
+          ∙ take-at (longer (begun own) column cells) (drop (length (longer (begun own) column cells)) numbers) (n - 0) (omega (arith, c, count-as))
+
+      -- the table stands in front of the numbers, so there are as many
+      pub cells-fit : n ≤ length after
+      cells-fit = omega (arith, c, count-as, ap length cells-front, length-take (n - 0) after)
 
 -- ---- an act on an area
 
--- a step on the area that was looked up is a step of the holding
-pub step-looked : (own default : List ℕ) (holding : Holding) (on : AreaAct) (found : Found) (area : Area) (outcome : Outcome)
-    → outcome ≡ acted own default (record { number = on .area; count = holding .count; found = found; area = area }) (on .act)
-    → found ≡ findArea holding (on .area) → area ≡ areaAt holding found → outcome ≡ applied own default holding on
-unfolding applied
-step-looked own default holding on found area outcome o f a =
-    o ∙ ap (λ (x : Looked). acted own default x (on .act)) (looked-as holding (on .area) found _ area f a)
+module _ (own statement : List ℕ) (on : AreaAct) (passed : Passed) (outcome : Outcome) (v : Verdict) (p : passed ≡ passedOver statement (on .area))
+    (o : outcome ≡ acted own schedule6 (passed .looked) (on .act)) (w : v ≡ smaller (passed .verdict) (outcome .verdict)) where
+  abbrev carries : Holding
+  carries = readOf statement .holding
 
-module _ (own statement default : List ℕ) (on : AreaAct) (read : Read) (outcome : Outcome) (v : Verdict) (r : read ≡ readOf statement)
-    (d : default ≡ schedule6) (o : outcome ≡ applied own default (read .holding) on) (w : v ≡ smaller (read .verdict) (outcome .verdict)) where
   outcome-is : outcome ≡ stepOutcome own statement on
-  unfolding stepOutcome
-  outcome-is = o ∙ ap (λ (l : List ℕ). applied own l (read .holding) on) d ∙ ap (λ (x : Read). applied own schedule6 (x .holding) on) r
+  unfolding stepOutcome applied passedOver
+  outcome-is = o ∙ ap (λ (x : Passed). acted own schedule6 (x .looked) (on .act)) p
+
+  verdict-is : passed .verdict ≡ readOf statement .verdict
+  unfolding passedOver
+  verdict-is = ap (λ (x : Passed). x .verdict) p
 
   pub step-weighed : v ≡ stepVerdict own statement on
   unfolding stepVerdict
   step-weighed =
-      w ∙ ap (λ (x : Outcome). smaller (read .verdict) (x .verdict)) outcome-is
-      ∙ ap (λ (x : Read). smaller (x .verdict) (stepOutcome own statement on .verdict)) r
+      w ∙ ap (λ (x : Verdict). smaller x (outcome .verdict)) verdict-is
+      ∙ ap (λ (x : Outcome). smaller (readOf statement .verdict) (x .verdict)) outcome-is
 
-  pub step-written : (after : Holding) → after ≡ placed (read .holding) outcome → reportedBytes after (outcome .report) ≡ stepBytes own statement on
-  unfolding stepBytes
-  step-written after p =
-      ap (λ (h : Holding). reportedBytes h (outcome .report)) p
-      ∙ ap (λ (x : Outcome). reportedBytes (placed (read .holding) x) (x .report)) outcome-is
-      ∙ ap (λ (x : Read). reportedBytes (placed (x .holding) (stepOutcome own statement on)) (stepOutcome own statement on .report)) r
+  module _ (e : v ≡ Verdict.Accepted) where
+    both-clear : (passed .verdict ≡ Verdict.Accepted) × (outcome .verdict ≡ Verdict.Accepted)
+    both-clear = smaller-clear (passed .verdict) (outcome .verdict) (sym w ∙ e)
 
--- ---- an entry is a column, or an act
+    is-read : readOf statement .verdict ≡ Verdict.Accepted
+    is-read = sym verdict-is ∙ both-clear .0
 
-module _ (own statement line : List ℕ) where
-  abbrev carried-holding : Holding
-  carried-holding = readOf statement .holding
+    -- the places of the area lie in the bytes, and in order
+    pub step-places : (passed .body ≤ passed .from) × (passed .from ≤ length statement) × (passed .to ≤ length statement)
+    unfolding passedOver
+    step-places = rw p (places-in statement is-read (on .area) (findArea carries (on .area)) refl)
 
-  pub column-verdict : (entry : Entry) (column : ℕ) → entry ≡ Entry.Column column → columnVerdict own statement line ≡ entryVerdict own statement line entry
-  unfolding columnVerdict entryVerdict entryTaken
-  column-verdict entry column c =
-      ap (smaller (readOf statement .verdict))
-      (sym (answered-verdict (growable own (carried-holding .count) line) (columnOutcome carried-holding) refl))
-      ∙ ap (entryVerdict own statement line) (sym c)
+    written-as : changedBytes (outcome .count) (take (passed .from - passed .body) (drop (passed .body) statement)) (outcome .area)
+        (drop (passed .to) statement) (outcome .report) ≡ stepBytes own statement on
+    unfolding stepBytes changedBytes passedOver stepOutcome applied
+    written-as =
+        rw (p, outcome-is)
+        (sym
+        (ap (λ (l : List ℕ). l ++ reportText (stepOutcome own statement on .report))
+        (changed-statement statement is-read (on .area) (stepOutcome own statement on)
+        (acted-places own schedule6 (lookedUp carries (on .area)) (on .act) (sym (ap (λ (x : Outcome). x .verdict) outcome-is) ∙ both-clear .1)))))
 
-  pub column-bytes : (entry : Entry) (column : ℕ) → entry ≡ Entry.Column column → tableBytes (longerBy own line) ≡ entryBytes own carried-holding line entry
-  unfolding entryBytes
-  column-bytes entry column c = ap (entryBytes own carried-holding line) (sym c)
-
-  pub step-verdict : (entry : Entry) (on : AreaAct) → entry ≡ Entry.On on → stepVerdict own statement on ≡ entryVerdict own statement line entry
-  unfolding stepVerdict stepOutcome entryVerdict entryTaken
-  step-verdict entry on c = ap (entryVerdict own statement line) (sym c)
-
-  pub step-bytes : (entry : Entry) (on : AreaAct) → entry ≡ Entry.On on → stepBytes own statement on ≡ entryBytes own carried-holding line entry
-  unfolding stepBytes stepOutcome entryBytes
-  step-bytes entry on c = ap (entryBytes own carried-holding line) (sym c)
+    pub step-written : changedBytes (outcome .count) (take (passed .from - passed .body) (drop (passed .body) statement)) (outcome .area)
+        (take (length statement - passed .to) (drop (passed .to) statement)) (outcome .report) ≡ stepBytes own statement on
+    step-written =
+        ap (λ (l : List ℕ). changedBytes (outcome .count) (take (passed .from - passed .body) (drop (passed .body) statement)) (outcome .area) l (outcome .report))
+        (take-all (length statement - passed .to) (drop (passed .to) statement) (omega (arith, length-drop (passed .to) statement)))
+        ∙ written-as
 
 -- ---- the call
 
@@ -218,15 +243,42 @@ module _ (statement table line out : List ℕ) where
   call-refused r e =
       let g = gives-refused (callVerdict statement table line) (callBytes statement table line) out r e in (g .told, g .left)
 
-  pub call-given : (entry : Entry) (own : List ℕ) (answer : Written) (after : List ℕ) → entryOf line ≡ Parsed.Taken entry → tableVerdict table ≡ Verdict.Accepted
-      → own ≡ numbersOf table → Gives (entryVerdict own statement line entry) (entryBytes own (readOf statement .holding) line entry) out answer after
+  pub call-by : (answer : Written) (after : List ℕ) → Gives (callVerdict statement table line) (callBytes statement table line) out answer after
       → (answer ≡ written (callWeighed statement table line (length out)) (callBytes statement table line)) × (after ≡ callOutput statement table line out)
-  unfolding callWeighed callOutput entryVerdict
-  call-given entry own answer after read clear same given =
-      let holding = readOf statement .holding in
-      let weighed-as =
-      ap (λ (l : List ℕ). smaller (readOf statement .verdict) (entryTaken l holding line entry .verdict)) same
-      ∙ sym (entry-decides statement table line entry read clear) in
-      let written-as = ap (λ (l : List ℕ). entryBytes l (readOf statement .holding) line entry) same ∙ sym (entry-writes statement table line entry read) in
-      let g = gives-as weighed-as written-as given in
-      (g .told, g .left)
+  unfolding callWeighed callOutput
+  call-by answer after g = (g .told, g .left)
+
+  -- an act on an area, under the table that was read
+  pub call-step : (on : AreaAct) (own : List ℕ) (answer : Written) (after : List ℕ) → entryOf line ≡ Parsed.Taken (Entry.On on)
+      → tableVerdict table ≡ Verdict.Accepted → own ≡ numbersOf table → Gives (stepVerdict own statement on) (stepBytes own statement on) out answer after
+      → Gives (callVerdict statement table line) (callBytes statement table line) out answer after
+  unfolding stepVerdict stepBytes stepOutcome entryTaken entryBytes
+  call-step on own answer after read clear same given =
+      gives-as
+      (ap (λ (l : List ℕ). stepVerdict l statement on) same ∙ sym (entry-decides statement table line (Entry.On on) read clear))
+      (ap (λ (l : List ℕ). stepBytes l statement on) same ∙ sym (entry-writes statement table line (Entry.On on) read)) given
+
+  -- a T line whose cells were read
+  module _ (clear : asColumn line ≡ Verdict.Accepted) where
+    abbrev entered : Entry
+    entered = Entry.Column (columnOf (fieldsOf line))
+
+    cells-decide : (own : List ℕ) → cellsVerdict own statement (lineColumn line) (lineCells line)
+        ≡ smaller (readOf statement .verdict) (entryTaken own (readOf statement .holding) line entered .verdict)
+    unfolding cellsVerdict entryTaken growable
+    cells-decide own =
+        ap (smaller (readOf statement .verdict))
+        (ap (λ (v : Verdict). weighed (andThen v (extensible (begun own) (lineColumn line) (lineCells line) longestTable))
+        (leb 1 (readOf statement .holding .count)) Refusal.TableAfterArea) (sym clear)
+        ∙ sym (answered-verdict (growable own (readOf statement .holding .count) line) (columnOutcome (readOf statement .holding)) refl))
+
+    pub call-column : (column : ℕ) (cells own : List ℕ) (answer : Written) (after : List ℕ) → column ≡ lineColumn line → cells ≡ lineCells line
+        → tableVerdict table ≡ Verdict.Accepted → own ≡ numbersOf table
+        → Gives (cellsVerdict own statement column cells) (tableBytes (longer (begun own) column cells)) out answer after
+        → Gives (callVerdict statement table line) (callBytes statement table line) out answer after
+    unfolding entryBytes longerBy
+    call-column column cells own answer after c d judged same given =
+        let read = column-entered line clear in
+        gives-as
+        (rw (c, d, same) (cells-decide (numbersOf table) ∙ sym (entry-decides statement table line entered read judged)))
+        (rw (c, d, same) (sym (entry-writes statement table line entered read))) given

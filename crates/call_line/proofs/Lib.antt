@@ -4,3 +4,4 @@ pub mod Ranged
 pub mod Tables
 pub mod Order
 pub mod Given
+pub mod Bridge

@@ -1,13 +1,13 @@
 -- The parts of a call that its functions answer for: a table that is one, and an entry that was read.
-use Rattle.laws.specs.{ℕ, _≡_, List, length}
-use Rattle.refusals.specs.{Verdict, Written, smaller, written, bufferAfter}
+use Rattle.laws.specs.{ℕ, _≡_, List, leb, length}
+use Rattle.refusals.specs.{Refusal, Verdict, Written, smaller, weighed, written, bufferAfter}
+use Rattle.table.specs.{longestTable}
+use Rattle.table_extend.specs.{begun, extensible}
 use Rattle.schedules.specs.{schedule6}
-use Rattle.line_entry.specs.{AreaAct, Entry, Parsed}
+use Rattle.line_entry.specs.{AreaAct, Parsed}
 use Rattle.step_outcome.specs.{Outcome}
 use Rattle.step.specs.{applied}
-use Rattle.table_grow.specs.{growable}
 use Rattle.statement.specs.{readOf}
-use Rattle.book_listing.specs.{entryTaken}
 use Rattle.call_line.specs.Call.{stateBytes, withRoom}
 
 -- what is answered, and what then stands in the buffer, under a verdict and with these bytes to write
@@ -20,13 +20,20 @@ abbrev pub refusedBy : Parsed → Written
 refusedBy (Parsed.Refused refusal) = Written.Refused refusal
 refusedBy (Parsed.Taken entry) = Written.Count 0
 
--- an entry, on a table and a statement
-unfoldable pub entryVerdict : List ℕ → List ℕ → List ℕ → Entry → Verdict
-entryVerdict own statement line entry = smaller (readOf statement .verdict) (entryTaken own (readOf statement .holding) line entry .verdict)
+-- what an answer says, and how many numbers were written
+abbrev pub verdictIn : Written → Verdict
+verdictIn (Written.Count count) = Verdict.Accepted
+verdictIn (Written.Refused refusal) = Verdict.Refused refusal
 
--- a T line
-unfoldable pub columnVerdict : List ℕ → List ℕ → List ℕ → Verdict
-columnVerdict own statement line = smaller (readOf statement .verdict) (growable own (readOf statement .holding .count) line)
+abbrev pub countIn : Written → ℕ
+countIn (Written.Count count) = count
+countIn (Written.Refused refusal) = 0
+
+-- a column of given cells
+unfoldable pub cellsVerdict : List ℕ → List ℕ → ℕ → List ℕ → Verdict
+cellsVerdict own statement column cells =
+    smaller (readOf statement .verdict)
+    (weighed (extensible (begun own) column cells longestTable) (leb 1 (readOf statement .holding .count)) Refusal.TableAfterArea)
 
 -- an act on an area
 unfoldable pub stepOutcome : List ℕ → List ℕ → AreaAct → Outcome

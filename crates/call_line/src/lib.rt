@@ -1,22 +1,25 @@
 // The call of a recorder's own program: its verdict, and what it writes.
 ghost use mathlib.Core.Path.{_≡_};
 ghost use lib.ListN.{length};
-ghost use Rattle.refusals.specs.{written, bufferAfter};
+ghost use lib.Dec.{leb};
+ghost use mathlib.Core.Bool.{true};
+ghost use Rattle.refusals.specs.{written, weighed, bufferAfter};
+ghost use Rattle.line.specs.{isColumnLine};
 ghost use Rattle.table.specs.{longestTable};
 ghost use Rattle.table_bytes.specs.{numbersOf, decodable};
-ghost use Rattle.table_grow.specs.{longerBy};
-ghost use Rattle.statement.specs.{readOf};
+ghost use Rattle.table_extend.specs.{begun, longer};
 ghost use Rattle.call_output.specs.{tableBytes};
-ghost use Rattle.call_line.specs.{tableVerdict, entryBytes, callBytes, callWeighed, callOutput, Gives, refusedBy, entryVerdict, columnVerdict, stepVerdict, stepBytes};
-use holding::Found;
-use holding::MOST_AREAS;
-use holding_look::Looked;
+ghost use Rattle.call_line.specs.{tableVerdict, callVerdict, callBytes, callWeighed, callOutput, Gives, refusedBy, verdictIn, countIn, cellsVerdict, stepVerdict, stepBytes};
 use line_entry::AreaAct;
 use line_entry::Entry;
 use line_entry::Parsed;
+use refusals::Refusal;
 use refusals::Verdict;
 use refusals::Written;
 use table::LONGEST_TABLE;
+
+// The most cells of a column.
+const MOST_CELLS: usize = table::LONGEST_COLUMN as usize;
 
 // The refusal of a line that was not read as an entry.
 fn refused_by(parsed: Parsed) -> Written
@@ -47,22 +50,80 @@ fn read_table(table: &[u8], numbers: &mut [u16]) -> Written
     }
 }
 
-// A T line: the table longer by its column.
-fn take_column(statement: &[u8], own: &[u16], line: &[u8], out: &mut [u8]) -> Written
-    ensures { λ r. ⌜ Gives (columnVerdict (now (own .entry)) (now (statement .entry)) (now (line .entry))) (tableBytes (longerBy (now (own .entry)) (now (line .entry)))) (now (out .entry)) r (now (out .exit)) ⌝ }
+// What a longer table is answered with once areas stand, and how many numbers it has.
+fn grown_verdict(answer: Written, areas: usize) -> Verdict
+    ensures { λ r. ⌜ r ≡ weighed (verdictIn answer) (leb 1 areas) Refusal.TableAfterArea ⌝ }
 {
-    let read = statement::read_from(statement);
-    let read_verdict = read.verdict;
-    let holding = read.holding;
-    let grown = table_grow::grow(own, holding.count, line);
-    let grown_verdict = grown.verdict;
-    let v = refusals::least(read_verdict, grown_verdict);
+    match answer {
+        Written::Refused(refusal) => Verdict::Refused(refusal),
+        Written::Count(_) => refusals::weigh(
+            Verdict::Accepted,
+            1 <= areas,
+            Refusal::TableAfterArea,
+        ),
+    }
+}
+
+fn grown_count(answer: Written) -> usize
+    ensures { λ r. ⌜ r ≡ countIn answer ⌝ }
+{
+    match answer {
+        Written::Refused(_) => 0,
+        Written::Count(count) => count,
+    }
+}
+
+// The table longer by a column of given cells.
+fn take_cells(
+    statement: &[u8],
+    own: &[u16],
+    column: usize,
+    cells: &[u16],
+    out: &mut [u8],
+) -> Written
+    ensures { λ r. ⌜ Gives (cellsVerdict (now (own .entry)) (now (statement .entry)) column (now (cells .entry))) (tableBytes (longer (begun (now (own .entry))) column (now (cells .entry)))) (now (out .entry)) r (now (out .exit)) ⌝ }
+{
+    let passed = statement_pass::pass(statement, 0);
+    let read_verdict = passed.verdict;
+    let looked = passed.looked;
+    let mut numbers = [0u16; LONGEST_TABLE];
+    let answer = table_extend::extend(own, column, cells, &mut numbers);
+    let table_verdict = grown_verdict(answer, looked.count);
+    let v = refusals::least(read_verdict, table_verdict);
     match v {
         Verdict::Refused(refusal) => Written::Refused(refusal),
         Verdict::Accepted => {
-            let count = grown.count;
-            let numbers = grown.numbers;
+            let count = grown_count(answer);
             call_output::write_table(&numbers[0..count], out)
+        }
+    }
+}
+
+// A T line: the table longer by its column. It is judged where its cells are read.
+fn take_column(statement: &[u8], table: &[u8], line: &[u8], out: &mut [u8]) -> Written
+    requires { ⌜ isColumnLine (now line) ≡ true ⌝ }
+    ensures { λ r. ⌜ Gives (callVerdict (now (statement .entry)) (now (table .entry)) (now (line .entry))) (callBytes (now (statement .entry)) (now (table .entry)) (now (line .entry))) (now (out .entry)) r (now (out .exit)) ⌝ }
+{
+    let mut cells = [0u16; MOST_CELLS];
+    let read = line::read_column(line, &mut cells);
+    let line_verdict = read.verdict;
+    let column = read.column;
+    let many = read.count;
+    match line_verdict {
+        Verdict::Refused(refusal) => Written::Refused(refusal),
+        Verdict::Accepted => {
+            if table.len() == 0 {
+                let none = [0u16; 1];
+                return take_cells(statement, &none[0..0], column, &cells[0..many], out);
+            }
+            let mut numbers = [0u16; LONGEST_TABLE];
+            let own = read_table(table, &mut numbers);
+            match own {
+                Written::Refused(refusal) => Written::Refused(refusal),
+                Written::Count(count) => {
+                    take_cells(statement, &numbers[0..count], column, &cells[0..many], out)
+                }
+            }
         }
     }
 }
@@ -71,66 +132,59 @@ fn take_column(statement: &[u8], own: &[u16], line: &[u8], out: &mut [u8]) -> Wr
 fn take_step(statement: &[u8], own: &[u16], on: AreaAct, out: &mut [u8]) -> Written
     ensures { λ r. ⌜ Gives (stepVerdict (now (own .entry)) (now (statement .entry)) on) (stepBytes (now (own .entry)) (now (statement .entry)) on) (now (out .entry)) r (now (out .exit)) ⌝ }
 {
-    let read = statement::read_from(statement);
-    let read_verdict = read.verdict;
-    let mut holding = read.holding;
-    let default = schedules::schedule_six();
-    let found = holding::find_area(holding, on.area);
-    let mut named = holding::empty_area();
-    if let Found::At(k) = found {
-        if k < MOST_AREAS {
-            named = holding.areas[k];
-        }
-    }
-    let looked = Looked {
-        number: on.area,
-        count: holding.count,
-        found,
-        area: named,
-    };
+    let passed = statement_pass::pass(statement, on.area);
+    let read_verdict = passed.verdict;
+    let looked = passed.looked;
     let act = on.act;
-    let outcome = step::apply_to(own, &default, looked, act);
+    let outcome = step::act_on(own, looked, act);
     let step_verdict = outcome.verdict;
     let v = refusals::least(read_verdict, step_verdict);
     match v {
         Verdict::Refused(refusal) => Written::Refused(refusal),
         Verdict::Accepted => {
-            let place = outcome.place;
-            if let Found::At(k) = place {
-                let area = outcome.area;
-                if k < MOST_AREAS {
-                    holding.areas[k] = area;
-                }
-                holding.count = outcome.count;
-            }
+            let body = passed.body;
+            let from = passed.from;
+            let to = passed.to;
+            let count = outcome.count;
+            let area = outcome.area;
             let report = outcome.report;
-            call_output::write_reported(holding, report, out)
+            call_output::write_changed(
+                count,
+                &statement[body..from],
+                area,
+                &statement[to..],
+                report,
+                out,
+            )
         }
     }
 }
 
-fn take_entry(statement: &[u8], own: &[u16], line: &[u8], entry: Entry, out: &mut [u8]) -> Written
-    ensures { λ r. ⌜ Gives (entryVerdict (now (own .entry)) (now (statement .entry)) (now (line .entry)) entry) (entryBytes (now (own .entry)) (readOf (now (statement .entry)) .holding) (now (line .entry)) entry) (now (out .entry)) r (now (out .exit)) ⌝ }
-{
-    match entry {
-        Entry::Column { column: _ } => take_column(statement, own, line, out),
-        Entry::On(on) => take_step(statement, own, on, out),
-    }
-}
-
-// Takes a line by a statement and a table, and writes to the front of `out` what they become: how many bytes, or why nothing is written.
+// Takes a line by a statement and a table, and writes to the front of `out` what they become: how many bytes, or why nothing is written. Room for a
+// table is laid out only where there is one.
 pub fn call(statement: &[u8], table: &[u8], line: &[u8], out: &mut [u8]) -> Written
     ensures { λ r. ⌜ r ≡ written (callWeighed (now (statement .entry)) (now (table .entry)) (now (line .entry)) (length (now (out .entry)))) (callBytes (now (statement .entry)) (now (table .entry)) (now (line .entry))) ⌝ }
     ensures { λ _. ⌜ now (out .exit) ≡ callOutput (now (statement .entry)) (now (table .entry)) (now (line .entry)) (now (out .entry)) ⌝ }
 {
+    if line::is_column(line) {
+        return take_column(statement, table, line, out);
+    }
     let parsed = line::parse(line);
     let Parsed::Taken(entry) = parsed else {
         return refused_by(parsed);
     };
+    // No other line is read as a column.
+    let Entry::On(on) = entry else {
+        return take_column(statement, table, line, out);
+    };
+    if table.len() == 0 {
+        let none = [0u16; 1];
+        return take_step(statement, &none[0..0], on, out);
+    }
     let mut numbers = [0u16; LONGEST_TABLE];
     let own = read_table(table, &mut numbers);
     match own {
         Written::Refused(refusal) => Written::Refused(refusal),
-        Written::Count(count) => take_entry(statement, &numbers[0..count], line, entry, out),
+        Written::Count(count) => take_step(statement, &numbers[0..count], on, out),
     }
 }

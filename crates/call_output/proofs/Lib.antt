@@ -1,1 +1,2 @@
 pub mod TableBytes
+pub mod Changed

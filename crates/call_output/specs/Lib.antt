@@ -1,3 +1,3 @@
 pub mod Outputs
-pub use Outputs.{reportedBytes, reportedWidth}
-unfoldable pub use Outputs.{tableBytes}
+pub use Outputs.{reportedBytes, changedWidth}
+unfoldable pub use Outputs.{tableBytes, changedText, changedBytes}

@@ -1,9 +1,10 @@
 -- What a call writes: "The output takes the new statement, then what `book` prints for an accepted R or W; for T it takes the longer table instead,
 -- two bytes a number, low byte first, as the table comes in."
-use Rattle.laws.specs.{ℕ, _/_, _%_, List, [], _∷_, _++_, _+_}
-use Rattle.holding.specs.{Holding}
+use Rattle.laws.specs.{code, ℕ, _/_, _%_, List, [], _∷_, _++_, _+_}
+use Rattle.text.specs.{lineEnd}
+use Rattle.holding.specs.{Area, Holding}
 use Rattle.step_outcome.specs.{Report}
-use Rattle.statement_format.specs.{statementOf, statementWidth}
+use Rattle.statement_format.specs.{startText, numberText, joined, areaText, statementOf, startWidth, longWidth, areaWidth}
 use Rattle.book_print.specs.{reportText, reportWidth}
 
 unfoldable pub tableBytes : List ℕ → List ℕ
@@ -13,6 +14,13 @@ tableBytes (n ∷ numbers) = n % 256 ∷ n / 256 ∷ tableBytes numbers
 abbrev pub reportedBytes : Holding → Report → List ℕ
 reportedBytes holding report = statementOf holding ++ reportText report
 
--- room for any statement and report
-abbrev pub reportedWidth : ℕ
-reportedWidth = statementWidth + reportWidth
+-- a statement of which one area is changed: its first line, bytes as they came, the area, bytes as they came
+unfoldable pub changedText : ℕ → List ℕ → Area → List ℕ → List ℕ
+changedText count before area behind = joined (startText (code "H") ∷ numberText count lineEnd ∷ before ∷ areaText area ∷ behind ∷ [])
+
+unfoldable pub changedBytes : ℕ → List ℕ → Area → List ℕ → Report → List ℕ
+changedBytes count before area behind report = changedText count before area behind ++ reportText report
+
+-- what these take at most besides the bytes as they came
+abbrev pub changedWidth : ℕ
+changedWidth = startWidth + longWidth + areaWidth + reportWidth

@@ -1,15 +1,18 @@
-// What a call writes: a longer table, or a statement and the report behind it.
+// What a call writes: a longer table, or a statement with one area changed and the report behind it.
 ghost use mathlib.Core.Path.{_≡_};
-ghost use Prim.Native.Nat.{_*_, _≤_};
+ghost use Prim.Native.Nat.{_+_, _*_, _≤_};
+ghost use lib.Dec.{leb};
 ghost use lib.ListN.{length};
 ghost use lib.Seq.{sets};
 ghost use Rattle.refusals.specs.{written, bufferAfter};
 ghost use Rattle.statement_field.specs.{Put};
 ghost use Rattle.statement_write.specs.{writable};
-ghost use Rattle.call_output.specs.{tableBytes, reportedBytes, reportedWidth};
-use holding::Holding;
+ghost use Rattle.call_output.specs.{tableBytes, changedBytes, changedWidth};
+use holding::Area;
 use refusals::Refusal;
 use refusals::Written;
+use statement_field::LONG_WIDTH;
+use statement_field::START_WIDTH;
 use step_outcome::Report;
 
 // Puts a table's numbers at the front of `out`, two bytes a number and the low byte first.
@@ -39,31 +42,75 @@ pub fn write_table(numbers: &[u16], out: &mut [u8]) -> Written
     Written::Count(2 * count)
 }
 
-// Puts a statement and a report at a place; the answer is the place after them.
-fn put_reported(out: &mut [u8], at: usize, holding: Holding, report: Report) -> usize
-    ensures { λ r. ⌜ Put reportedWidth (now (out .entry)) at (reportedBytes holding report) (now (out .exit)) r ⌝ }
+// Puts a statement with one area changed, and a report behind it: the first line, bytes as they came, the area, bytes as they came. The answer is
+// the place after them.
+fn put_changed(
+    out: &mut [u8],
+    count: usize,
+    before: &[u8],
+    area: Area,
+    behind: &[u8],
+    report: Report,
+) -> usize
+    ensures { λ r. ⌜ Put (changedWidth + length (now (before .entry)) + length (now (behind .entry))) (now (out .entry)) 0 (changedBytes count (now (before .entry)) area (now (behind .entry)) report) (now (out .exit)) r ⌝ }
 {
-    let next = statement_write::put_statement(out, at, holding);
+    let next = statement_field::put_start(out, 0, b'H');
+    let next = statement_field::put_field(out, next, count as u64, b'\n');
+    let next = text::put_bytes(out, next, before);
+    let next = statement_write::put_area(out, next, area);
+    let next = text::put_bytes(out, next, behind);
     book_print::put_report(out, next, report)
 }
 
-// Room for any statement and report, in bytes.
-const ROOM: usize = statement_write::STATEMENT_WIDTH + book_print::REPORT_WIDTH;
+// What is written of any statement besides the bytes as they came takes at most, in bytes.
+const CHANGED_WIDTH: usize = START_WIDTH
+    + LONG_WIDTH
+    + statement_write::AREA_WIDTH
+    + book_print::REPORT_WIDTH;
 
-// Writes a statement and a report to the front of `out`: how many bytes they have, or why they are not written. Where there is room for any they are not measured.
-pub fn write_reported(holding: Holding, report: Report, out: &mut [u8]) -> Written
-    ensures { λ r. ⌜ r ≡ written (writable (reportedBytes holding report) (length (now (out .entry)))) (reportedBytes holding report) ⌝ }
-    ensures { λ _. ⌜ now (out .exit) ≡ bufferAfter (writable (reportedBytes holding report) (length (now (out .entry)))) (reportedBytes holding report) (now (out .entry)) ⌝ }
+// Whether there is room for three parts.
+fn has_room(room: usize, written: usize, before: usize, behind: usize) -> bool
+    ensures { λ r. ⌜ r ≡ leb (written + before + behind) room ⌝ }
 {
-    if ROOM <= out.len() {
-        let count = put_reported(out, 0, holding, report);
-        return Written::Count(count);
+    if room < written {
+        return false;
+    }
+    let left = room - written;
+    if left < before {
+        return false;
+    }
+    behind <= left - before
+}
+
+// Writes a statement with one area changed, and a report behind it, to the front of `out`: how many bytes they have, or why they are not written.
+// Where there is room for any area they are not measured, and the bytes that came never are.
+pub fn write_changed(
+    count: usize,
+    before: &[u8],
+    area: Area,
+    behind: &[u8],
+    report: Report,
+    out: &mut [u8],
+) -> Written
+    ensures { λ r. ⌜ r ≡ written (writable (changedBytes count (now (before .entry)) area (now (behind .entry)) report) (length (now (out .entry)))) (changedBytes count (now (before .entry)) area (now (behind .entry)) report) ⌝ }
+    ensures { λ _. ⌜ now (out .exit) ≡ bufferAfter (writable (changedBytes count (now (before .entry)) area (now (behind .entry)) report) (length (now (out .entry)))) (changedBytes count (now (before .entry)) area (now (behind .entry)) report) (now (out .entry)) ⌝ }
+{
+    if has_room(out.len(), CHANGED_WIDTH, before.len(), behind.len()) {
+        let length = put_changed(out, count, before, area, behind, report);
+        return Written::Count(length);
     }
     let mut unkept = [0u8; 1];
-    let need = put_reported(&mut unkept, 0, holding, report);
-    if out.len() < need {
-        return Written::Refused(Refusal::OutputShort);
+    let written = put_changed(
+        &mut unkept,
+        count,
+        &before[0..0],
+        area,
+        &behind[0..0],
+        report,
+    );
+    if has_room(out.len(), written, before.len(), behind.len()) {
+        let length = put_changed(out, count, before, area, behind, report);
+        return Written::Count(length);
     }
-    let count = put_reported(out, 0, holding, report);
-    Written::Count(count)
+    Written::Refused(Refusal::OutputShort)
 }

@@ -1,5 +1,5 @@
 -- Letters and types: a type's letters name it, and nothing else does; two types at one place are one type.
-use Rattle.laws.proofs.{ℕ, _≤_, Bool, true, false, cond, _≡_, refl, sym, ap, _∙_, List, [], _∷_, arith, eqb-true, eq-eqb, ne-eqb, eqb, lit≤, length, getD, take}
+use Rattle.laws.proofs.{ℕ, _≤_, Bool, true, false, cond, _≡_, refl, sym, ap, _∙_, List, [], _∷_, arith, eqb-true, eq-eqb, ne-eqb, eqb, ltb, lit≤, length, getD}
 use Rattle.forest.specs.{Region, Forest, regionNumber, lettersOf, lettersWritten, beside, letters, regions, letterNames, regionNames, named, orderOf, sameType, Named}
 
 pub nine-regions : (r : Region) → regionNumber r ≤ 9
@@ -49,8 +49,9 @@ no-letters (b ∷ []) h e = absurd (h refl)
 no-letters (b ∷ d ∷ []) h e = absurd (e refl)
 no-letters (b ∷ d ∷ f ∷ s) h e = refl
 
--- what is written is a type's letters
-pub written-letters : (f : Forest) → take (lettersWritten f .len) (lettersWritten f .bytes) ≡ lettersOf f
+-- a type's letters are the first byte written of it, or both
+pub written-letters : (f : Forest) → let x = lettersWritten f in
+    cond (ltb 1 (x .len)) (getD (x .bytes) 0 0 ∷ getD (x .bytes) 1 0 ∷ []) (getD (x .bytes) 0 0 ∷ []) ≡ lettersOf f
 unfolding lettersOf
 written-letters Forest.Bare = refl
 written-letters (Forest.Radiata r) = refl

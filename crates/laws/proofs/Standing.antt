@@ -1,11 +1,11 @@
 -- The standing part of an array, its first n elements, gone through by an index: at i stands the i-th element and what follows,
 -- and past the part or the array nothing.
 use Prim.Native.Nat.{ℕ, zero, suc, _+_, _<_, _≤_}
-use mathlib.Core.Path.{_≡_, refl, sym, _∙_}
+use mathlib.Core.Path.{_≡_, refl, sym, ap, _∙_}
 use mathlib.Core.List.{List, [], _∷_, map}
 use native.Mathlib.Numerals.{add-one}
 use native.Mathlib.Omega.{arith}
-use lib.ListN.{length, take, drop, getD, length-take, length-map, drop-of-length-le}
+use lib.ListN.{length, take, drop, getD, set, length-take, length-map, drop-of-length-le}
 use lib.Seq.{drop-cons, getD-take}
 
 module _ {A : Type 0} (l : List A) (n i : ℕ) where
@@ -23,6 +23,18 @@ module _ {A : Type 0} (l : List A) (n i : ℕ) where
 -- an array of structs is as long as the array of what stands for them
 pub as-long : (A B : Type 0) (f : A → B) (l : List A) (n : ℕ) → length (map f l) ≡ n → length l ≡ n
 as-long A B f l n e = sym (length-map l f) ∙ e
+
+-- what stands for the first n, and after a store
+module _ {A B : Type 0} (f : A → B) where
+  pub take-map : (n : ℕ) (l : List A) → take n (map f l) ≡ map f (take n l)
+  take-map zero l = refl
+  take-map (suc n) [] = refl
+  take-map (suc n) (x ∷ xs) = ap (λ (t : List B). f x ∷ t) (take-map n xs)
+
+  pub map-set : (l : List A) (i : ℕ) (a : A) → map f (set l i a) ≡ set (map f l) i (f a)
+  map-set [] i a = refl
+  map-set (x ∷ xs) zero a = refl
+  map-set (x ∷ xs) (suc i) a = ap (λ (t : List B). f x ∷ t) (map-set xs i a)
 
 -- inside a list the default does not matter
 pub getD-same : {A : Type 0} (l : List A) (i : ℕ) (d e : A) → i < length l → getD l i d ≡ getD l i e

@@ -1,12 +1,13 @@
--- Runs of stores into a list: what is left to store after a store, runs that join, a run past the end, and what stands then.
+-- Runs of stores into a list: what is left to store after a store, a run stored by a loop, runs that join, a run past the end or cut there,
+-- and what stands then.
 use Prim.Native.Nat.{ℕ, zero, suc, _+_, _<_, _≤_}
 use mathlib.Core.Path.{_≡_, refl, sym, ap, _∙_}
 use mathlib.Core.List.{List, [], _∷_, _++_}
 use native.Mathlib.Numerals.{add-one}
 use native.Mathlib.Nat.{zero-add, add-zero, add-suc, suc-add}
 use native.Mathlib.Omega.{arith}
-use lib.ListN.{length, getD, set, drop, drop-of-length-le, length-append, length-drop, length-set}
-use lib.Seq.{drop-cons, sets, sets-eq, set-out, take-at, drop-append-add, drop-drop, getD-set-same, getD-set-other}
+use lib.ListN.{length, getD, set, take, drop, drop-of-length-le, length-append, length-take, length-drop, length-set, take-append-drop}
+use lib.Seq.{drop-cons, sets, length-sets, sets-eq, set-out, take-at, drop-append-add, drop-drop, getD-set-same, getD-set-other}
 
 module _ {A : Type 0} (s out : List A) where
   pub store-goes-on : (d : A) (at i : ℕ) → i < length s
@@ -21,6 +22,20 @@ module _ {A : Type 0} (s out : List A) where
   -- stored from the front, where there is room
   pub stored-in-front : length s ≤ length out → sets out 0 s ≡ s ++ drop (length s) out
   stored-in-front h = simp zero-add at (sets-eq s out 0 (omega arith))
+
+-- a run under way: storing what is left from i on stores all
+module _ {A : Type 0} (s out₀ : List A) (at : ℕ) where
+  abbrev pub Storing : List A → ℕ → Type 0
+  Storing out i = (i ≤ length s) × (length out ≡ length out₀) × (sets out (at + i) (drop i s) ≡ sets out₀ at s)
+
+  pub storing-none : Storing out₀ 0
+  storing-none = (omega arith, refl, simp add-zero)
+
+  pub storing-more : (d : A) (out : List A) (i : ℕ) → i < length s → Storing out i → Storing (set out (at + i) (getD s i d)) (i + 1)
+  storing-more d out i h k = (omega arith, simp length-set (k .1), store-goes-on s out d at i h ∙ k .2)
+
+  pub storing-all : (out : List A) (i : ℕ) → length s ≤ i → Storing out i → out ≡ sets out₀ at s
+  storing-all out i h k = store-ends s out at i h ∙ k .2
 
 -- stored behind a front that stands
 pub stored-behind : {A : Type 0} (front s out : List A) (n : ℕ) → length front ≡ n → n + length s ≤ length out
@@ -41,6 +56,14 @@ pub sets-out : {A : Type 0} (l : List A) (i : ℕ) (xs : List A) → length l �
 sets-out l i [] h = refl
 sets-out l i (x ∷ xs) h =
     ap (λ (m : List _). sets m (suc i) xs) (set-out l i x h) ∙ sets-out l (suc i) xs (omega arith)
+
+-- what lies past the end is not stored
+pub sets-cut : {A : Type 0} (l : List A) (i n : ℕ) (xs : List A) → n ≤ length xs → length l ≤ i + n → sets l i (take n xs) ≡ sets l i xs
+sets-cut l i n xs h k =
+    let past : length (sets l i (take n xs)) ≤ i + length (take n xs) = omega (arith, length-sets l i (take n xs), length-take n xs) in
+    sym (sets-out (sets l i (take n xs)) (i + length (take n xs)) (drop n xs) past)
+    ∙ sets-append l i (take n xs) (drop n xs)
+    ∙ ap (sets l i) (take-append-drop n xs)
 
 -- what a run of stores leaves at a place before it
 sets-before : {A : Type 0} (l : List A) (i : ℕ) (xs : List A) (j : ℕ) (d : A) → j < i → getD (sets l i xs) j d ≡ getD l j d

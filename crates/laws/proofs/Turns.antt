@@ -47,11 +47,11 @@ module _ {A : Type 0} (test : A → Bool) (l : List A) (n i : ℕ) (found whole 
   unfolding some
   some-more d t p q e = rw e (or-assoc found (test (getD l i d)) (some test (drop (i + 1) (take n l))) ∙ (simp (standing-next l n i d p q) at h))
 
-and-none : (a : Bool) → (a && true) ≡ a
+pub and-none : (a : Bool) → (a && true) ≡ a
 and-none true = refl
 and-none false = refl
 
-and-assoc : (a b c : Bool) → ((a && b) && c) ≡ (a && (b && c))
+pub and-assoc : (a b c : Bool) → ((a && b) && c) ≡ (a && (b && c))
 and-assoc true b c = refl
 and-assoc false b c = refl
 

@@ -9,7 +9,7 @@ use Rattle.refusals.proofs.Laws.{RuledOut, ruled-out}
 use Rattle.line_entry.specs.{Entry, Parsed, Rule, parsed, openRule, addRule, clearRule, plantRule, fileRule, withdrawRule}
 use Rattle.line_column.specs.{ReadColumn, cellsOf, columnOf, columnRule, tenthsAll, readable, columnRead}
 use Rattle.line.proofs.Laws.{first-passed}
-use Rattle.line.specs.{bodyOf, fieldsOf, longest, letterOf, noRule, ruleOf, lineRule, conditions, entryOf, asColumn}
+use Rattle.line.specs.{bodyOf, fieldsOf, longest, letterOf, isColumnLine, noRule, ruleOf, lineRule, conditions, entryOf, asColumn}
 
 -- three cases of one number are one test
 three-tests : (a b c : Bool) (cs : List Case)
@@ -97,6 +97,21 @@ column-cases line e i =
     let body = bodyOf line in
     let named : eqb (letterOf body) 84 ≡ true = not-false _ (ruled-out _ e 0) in
     rw named at (ruled-out _ e (suc (suc (suc i))))
+
+-- and a T line that is refused so is refused
+pub column-refused : (line : List ℕ) (r : Refusal) → isColumnLine line ≡ true → asColumn line ≡ Verdict.Refused r → entryOf line ≡ Parsed.Refused r
+unfolding isColumnLine asColumn entryOf parsed
+column-refused line r named e =
+    let body = bodyOf line in
+    rw (sym (first-passed (conditions body) _ (ap not named)) ∙ e)
+
+-- a line that is read as a column is a T line
+pub column-named : (line : List ℕ) (column : ℕ) → entryOf line ≡ Parsed.Taken (Entry.Column column) → isColumnLine line ≡ true
+unfolding entryOf lineRule isColumnLine
+column-named line column e =
+    let body = bodyOf line in
+    let t = taken-by (smallest (conditions body)) (lineRule body .entry) (Entry.Column column) e in
+    sym (column-rule (letterOf body) (split body)) ∙ ap isColumn (t .1)
 
 -- and it is read as its column
 pub column-entered : (line : List ℕ) → asColumn line ≡ Verdict.Accepted → entryOf line ≡ Parsed.Taken (Entry.Column (columnOf (fieldsOf line)))

@@ -1,5 +1,5 @@
 -- What a line says: an entry, or the smallest number that refuses it.
-use Rattle.laws.specs.{code, ℕ, _-_, true, not, cond, List, [], _∷_, eqb, ltb, length, getD, take}
+use Rattle.laws.specs.{code, ℕ, _-_, Bool, true, not, cond, List, [], _∷_, eqb, ltb, length, getD, take}
 use Rattle.text.specs.{comma, lineEnd, holds, split}
 use Rattle.refusals.specs.{Verdict, Case, _⇒_, smallest, Refusal}
 use Rattle.line_entry.specs.{Parsed, Rule, parsed, openRule, addRule, clearRule, plantRule, fileRule, withdrawRule, Act, Entry, on}
@@ -21,6 +21,10 @@ unfoldable pub letterOf : List ℕ → ℕ
 letterOf [] = 0
 letterOf (b ∷ []) = b
 letterOf (b ∷ c ∷ bs) = cond (eqb c comma) b 0
+
+-- whether the line's letter is T's
+unfoldable pub isColumnLine : List ℕ → Bool
+isColumnLine line = eqb (letterOf (bodyOf line)) (code "T")
 
 -- "1 wrong letter": no entry is taken, and the one that stands there has no meaning
 unfoldable pub noRule : Rule

@@ -4,7 +4,7 @@ ghost use lib.ListN.{length};
 ghost use Rattle.refusals.specs.{bufferAfter};
 ghost use Rattle.line_entry.specs.{parsedBy};
 ghost use Rattle.line_column.specs.{cellsOf, tenthsAll, readable, columnRead};
-ghost use Rattle.line.specs.{bodyOf, fieldsOf, letterOf, lineRule, entryOf, asColumn};
+ghost use Rattle.line.specs.{bodyOf, fieldsOf, letterOf, isColumnLine, lineRule, entryOf, asColumn};
 use line_column::ReadColumn;
 use line_entry::Parsed;
 use refusals::Refusal;
@@ -40,6 +40,13 @@ fn letter(body: &[u8]) -> u8
         return body[0];
     }
     0
+}
+
+// Whether the line's letter is T.
+pub fn is_column(line: &[u8]) -> bool
+    ensures { λ r. ⌜ r ≡ isColumnLine (now (line .entry)) ⌝ }
+{
+    letter(body(line)) == b'T'
 }
 
 fn by_letter(body: &[u8]) -> Parsed

@@ -1,5 +1,6 @@
 -- Cells: a turn of the scan adds a cell to what was judged and kept.
-use Rattle.laws.proofs.{ℕ, _+_, _-_, _≤_, _<_, _≡_, refl, sym, ap, _∙_, Bool, true, false, _||_, List, arith, add-one, ltb-false, ltb, length, length-map, take, drop, set, length-drop, drop-of-length-le, sets}
+use Rattle.laws.proofs.{ℕ, _+_, _-_, _≤_, _<_, _≡_, refl, sym, ap, _∙_, Bool, true, false, _||_, List, arith, add-one, ltb-false, ltb, length, length-map, take, drop, set, length-drop, drop-of-length-le, replicate, length-replicate, sets}
+use lib.Seq.{take-at}
 use Rattle.laws.specs.{some}
 use Rattle.laws.proofs.Stores.{stored-in-front}
 use Rattle.text.specs.{comma, widthTo, split}
@@ -9,9 +10,10 @@ use Rattle.text_value.specs.{fitted}
 use Rattle.text_decimal.specs.{cellIn}
 use Rattle.text_field.specs.{Places, placesOf}
 use Rattle.text_field.proofs.Laws.{count-found}
-use Rattle.refusals.specs.{Refusal, Verdict, weighed, bufferAfter}
-use Rattle.refusals.proofs.Laws.{clear-last}
-use Rattle.line_column.specs.{cellsOf, someCell, columnOf, tenthsIn, tenthsAll, cellsFound, readable, columnRead}
+use Rattle.refusals.specs.{Refusal, Verdict, weighed, smallest, bufferAfter}
+use Rattle.refusals.proofs.Laws.{clear-before, clear-last, ruled-out}
+use Rattle.table.specs.{longestColumn}
+use Rattle.line_column.specs.{cellsOf, someCell, columnOf, tenthsIn, tenthsAll, cellsFound, columnRule, readable, columnRead}
 
 module _ (s : List ℕ) (start end : ℕ) (e : end ≡ start + widthTo comma (drop start s)) (h : start ≤ length s) (cell : Number)
     (read : cell ≡ cellIn (take (end - start) (drop start s))) where
@@ -63,6 +65,21 @@ cells-many : (fs : List (List ℕ)) → length (tenthsAll fs) ≡ length fs
 unfolding tenthsAll
 cells-many fs = length-map fs tenthsIn
 
+-- the front of 101 places in which the cells were kept
+pub kept-front : (fs : List (List ℕ)) (count : ℕ) (kept : List ℕ) → length (cellsOf fs) ≤ longestColumn → count ≡ length (cellsOf fs)
+    → kept ≡ sets (replicate longestColumn 0) 0 (tenthsAll (cellsOf fs)) → take (count - 0) kept ≡ tenthsAll (cellsOf fs)
+kept-front fs count kept few n q =
+    let cells = tenthsAll (cellsOf fs) in
+    let places : List ℕ = replicate longestColumn 0 in
+    let many = cells-many (cellsOf fs) in
+    ap (take (count - 0)) (q ∙ stored-in-front cells places (omega (arith, many, length-replicate {A = ℕ} longestColumn 0)))
+    ∙ take-at cells (drop (length cells) places) (count - 0) (omega (arith, many))
+
+-- a line that is accepted has at most 101 cells
+pub few-cells : (fs : List (List ℕ)) → smallest (columnRule fs .cases) ≡ Verdict.Accepted → length (cellsOf fs) ≤ longestColumn
+unfolding columnRule
+few-cells fs e = ltb-false _ _ (ruled-out _ e 5)
+
 pub room-weighed : (v own w : Verdict) (fs : List (List ℕ)) (n room : ℕ) → own ≡ v → n ≡ length (cellsOf fs)
     → w ≡ weighed own (ltb room n) Refusal.OutputShort → w ≡ readable v fs room
 unfolding readable
@@ -76,11 +93,18 @@ module _ (v w : Verdict) (fs : List (List ℕ)) (out : List ℕ) (e : w ≡ read
   unfolding bufferAfter
   read-refused r k = rw (sym e ∙ k) (refl, refl)
 
-  pub read-clear : (column count : ℕ) (kept : List ℕ) → w ≡ Verdict.Accepted → column ≡ columnOf fs → count ≡ length (cellsOf fs)
-      → kept ≡ sets out 0 (tenthsAll (cellsOf fs))
-      → (record { verdict = Verdict.Accepted; column = column; count = count } ≡ columnRead (readable v fs (length out)) fs)
-      × (kept ≡ bufferAfter (readable v fs (length out)) (tenthsAll (cellsOf fs)) out)
-  unfolding readable bufferAfter
-  read-clear column count kept k n m q =
-      let room = ltb-false (length out) (length (cellsOf fs)) (clear-last v (ltb (length out) (length (cellsOf fs))) Refusal.OutputShort (sym e ∙ k)) in
-      rw (sym e ∙ k) (simp (n, m), q ∙ stored-in-front (tenthsAll (cellsOf fs)) out (omega (arith, cells-many (cellsOf fs), room)))
+  module _ (k : w ≡ Verdict.Accepted) where
+    pub own-clear : v ≡ Verdict.Accepted
+    unfolding readable
+    own-clear = clear-before v _ Refusal.OutputShort (sym e ∙ k)
+
+    pub cells-fit : length (cellsOf fs) ≤ length out
+    unfolding readable
+    cells-fit = ltb-false (length out) (length (cellsOf fs)) (clear-last v _ Refusal.OutputShort (sym e ∙ k))
+
+    pub read-clear : (column count : ℕ) (kept : List ℕ) → column ≡ columnOf fs → count ≡ length (cellsOf fs) → kept ≡ sets out 0 (tenthsAll (cellsOf fs))
+        → (record { verdict = Verdict.Accepted; column = column; count = count } ≡ columnRead (readable v fs (length out)) fs)
+        × (kept ≡ bufferAfter (readable v fs (length out)) (tenthsAll (cellsOf fs)) out)
+    unfolding bufferAfter
+    read-clear column count kept n m q =
+        rw (sym e ∙ k) (simp (n, m), q ∙ stored-in-front (tenthsAll (cellsOf fs)) out (omega (arith, cells-many (cellsOf fs), cells-fit)))

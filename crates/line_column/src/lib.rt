@@ -94,18 +94,18 @@ fn all_cells(line: &[u8], places: Places, cells: &mut [u16]) -> Cells
     scan_cells(line, first, cells)
 }
 
-// The fields judged, and what they say of the column whatever the verdict; no cell is kept.
-fn judge(line: &[u8], places: Places) -> ReadColumn
+// The fields judged, and what they say of the column whatever the verdict; the cells are kept, while there is room.
+fn judge(line: &[u8], places: Places, kept: &mut [u16]) -> ReadColumn
     requires { ⌜ places ≡ placesOf (split (now line)) ⌝ }
     ensures { λ r. ⌜ (r .verdict ≡ smallest (columnRule (split (now (line .entry))) .cases)) × (r .column ≡ columnOf (split (now (line .entry)))) × (r .count ≡ length (cellsOf (split (now (line .entry))))) ⌝ }
+    ensures { λ _. ⌜ now (kept .exit) ≡ sets (now (kept .entry)) 0 (tenthsAll (cellsOf (split (now (line .entry))))) ⌝ }
 {
     let fields = places.count;
     let count = cell_count(fields);
     let first = line_entry::letter_in(text_field::field(line, places, 0));
     let kind = line_entry::letter_in(text_field::field(line, places, 1));
     let named = line_entry::letter_in(text_field::field(line, places, 2));
-    let mut unkept = [0u16; 1];
-    let cells = all_cells(line, places, &mut unkept);
+    let cells = all_cells(line, places, kept);
     let v = refusals::weigh(Verdict::Accepted, first != b'T', Refusal::Form);
     let v = refusals::weigh(v, fields <= FIRST_CELL, Refusal::Form);
     let v = refusals::weigh(v, !table_parts::is_kind(kind), Refusal::Form);
@@ -126,7 +126,8 @@ pub fn column_entry(line: &[u8]) -> Parsed
     ensures { λ r. ⌜ r ≡ parsedBy (columnRule (split (now (line .entry)))) ⌝ }
 {
     let places = text_field::scan(line);
-    let judged = judge(line, places);
+    let mut unkept = [0u16; 1];
+    let judged = judge(line, places, &mut unkept);
     let verdict = judged.verdict;
     match verdict {
         Verdict::Refused(refusal) => Parsed::Refused(refusal),
@@ -136,13 +137,25 @@ pub fn column_entry(line: &[u8]) -> Parsed
     }
 }
 
+fn put_cells(kept: &[u16], cells: &mut [u16])
+    requires { ⌜ length (now kept) ≤ length (now cells) ⌝ }
+    ensures { λ _. ⌜ now (cells .exit) ≡ sets (now (cells .entry)) 0 (now (kept .entry)) ⌝ }
+{
+    let mut i = 0;
+    while i < kept.len() {
+        cells[i] = kept[i];
+        i += 1;
+    }
+}
+
 // Reads the column of a T line's fields, and its cells into lent numbers: all of them, or none where the line is refused.
 pub fn read_column(line: &[u8], cells: &mut [u16]) -> ReadColumn
     ensures { λ r. ⌜ r ≡ columnRead (readable (smallest (columnRule (split (now (line .entry))) .cases)) (split (now (line .entry))) (length (now (cells .entry)))) (split (now (line .entry))) ⌝ }
     ensures { λ _. ⌜ now (cells .exit) ≡ bufferAfter (readable (smallest (columnRule (split (now (line .entry))) .cases)) (split (now (line .entry))) (length (now (cells .entry)))) (tenthsAll (cellsOf (split (now (line .entry))))) (now (cells .entry)) ⌝ }
 {
     let places = text_field::scan(line);
-    let judged = judge(line, places);
+    let mut kept = [0u16; MOST_CELLS];
+    let judged = judge(line, places, &mut kept);
     let column = judged.column;
     let count = judged.count;
     let own = judged.verdict;
@@ -154,7 +167,7 @@ pub fn read_column(line: &[u8], cells: &mut [u16]) -> ReadColumn
             count: 0,
         },
         Verdict::Accepted => {
-            all_cells(line, places, cells);
+            put_cells(&kept[0..count], cells);
             ReadColumn {
                 verdict: Verdict::Accepted,
                 column,

@@ -2,12 +2,12 @@
 use Rattle.laws.proofs.{ℕ, _+_, _-_, _<_, _≤_, min, _≡_, refl, sym, ap, Bool, true, false, cond, List, [], _++_, arith, lt-ltb, le-ltb, eq-eqb, ne-eqb, eqb, length, getD}
 use lib.ListN.{List·getD-eq-default}
 use Rattle.forest.specs.{Forest, lettersOf}
-use Rattle.schedules.specs.{Kind, listed, placeSix}
+use Rattle.schedules.specs.{Kind, Place, listed, placeSix}
 use Rattle.text.specs.{widthTo}
 use Rattle.text.proofs.Widths.{width-le}
 use Rattle.table_parts.specs.{typeLetters, columnNumber, lengthOf}
 use Rattle.table_lent.specs.{ownColumn}
-use Rattle.rates.specs.{ownNumber, atPlace, consulted, firstAge, cellAt}
+use Rattle.rates.specs.{ownNumber, atPlace, columnOf, consulted, firstAge, cellAt}
 
 module _ (first : ℕ) (cells : List ℕ) (age : ℕ) where
   pub below-first : age < first → 0 ≡ cellAt (listed first cells) age
@@ -35,22 +35,27 @@ pub five-more : (f : Forest) → 5 + ownNumber Kind.Stock f ≡ ownNumber Kind.R
 unfolding columnNumber widthTo
 five-more f = omega arith
 
+module _ (own default : List ℕ) (number : ℕ) (place : Place) where
+  pub by-default : lengthOf own number ≡ 0 → columnOf own default number place ≡ atPlace default place
+  by-default e = simp (eq-eqb _ _ e)
+
+  pub by-own : (lengthOf own number ≡ 0 → ⊥) → columnOf own default number place ≡ listed 0 (ownColumn own number)
+  by-own e = simp (ne-eqb _ _ e)
+
+  -- the first age does not hang on the default's cells
+  pub first-of-any : firstAge own number place ≡ columnOf own default number place .first
+  first-of-any = go (eqb (lengthOf own number) 0)
+    where
+      go : (t : Bool)
+          → cond t (atPlace [] place) (listed 0 (ownColumn own number)) .first ≡ cond t (atPlace default place) (listed 0 (ownColumn own number)) .first
+      go true = refl
+      go false = refl
+
 module _ (own default : List ℕ) (kind : Kind) (forest : Forest) where
   pub defaults : lengthOf own (ownNumber kind forest) ≡ 0 → consulted own default kind forest ≡ atPlace default (placeSix kind forest)
   unfolding consulted
-  defaults e = simp (eq-eqb _ _ e)
+  defaults e = by-default own default (ownNumber kind forest) (placeSix kind forest) e
 
   pub participants : (lengthOf own (ownNumber kind forest) ≡ 0 → ⊥) → consulted own default kind forest ≡ listed 0 (ownColumn own (ownNumber kind forest))
   unfolding consulted
-  participants e = simp (ne-eqb _ _ e)
-
--- the first age does not hang on the default's cells
-pub first-of-any : (own default : List ℕ) (kind : Kind) (forest : Forest) → firstAge own kind forest ≡ consulted own default kind forest .first
-unfolding consulted
-first-of-any own default kind forest = go (eqb (lengthOf own (ownNumber kind forest)) 0)
-  where
-    go : (t : Bool)
-        → cond t (atPlace [] (placeSix kind forest)) (listed 0 (ownColumn own (ownNumber kind forest))) .first
-        ≡ cond t (atPlace default (placeSix kind forest)) (listed 0 (ownColumn own (ownNumber kind forest))) .first
-    go true = refl
-    go false = refl
+  participants e = by-own own default (ownNumber kind forest) (placeSix kind forest) e

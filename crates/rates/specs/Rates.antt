@@ -20,15 +20,15 @@ atPlace cells place = listed (place .first) (take (place .len) (drop (place .sta
 
 -- "The column consulted is the participant's, or the default one where that length is 0 (002, 6.1)." The participant's are by "ages from 0".
 -- Over Schedule 6 the default one is the type's column: `six-column`.
+abbrev pub columnOf : List ℕ → List ℕ → ℕ → Place → Column
+columnOf own default number place = cond (eqb (lengthOf own number) 0) (atPlace default place) (listed 0 (ownColumn own number))
+
 unfoldable pub consulted : List ℕ → List ℕ → Kind → Forest → Column
-consulted own default kind forest =
-    cond (eqb (lengthOf own (ownNumber kind forest)) 0)
-    (atPlace default (placeSix kind forest))
-    (listed 0 (ownColumn own (ownNumber kind forest)))
+consulted own default kind forest = columnOf own default (ownNumber kind forest) (placeSix kind forest)
 
 -- its first age, which the default's cells do not bear on
-abbrev pub firstAge : List ℕ → Kind → Forest → ℕ
-firstAge own kind forest = consulted own [] kind forest .first
+abbrev pub firstAge : List ℕ → ℕ → Place → ℕ
+firstAge own number place = columnOf own [] number place .first
 
 -- "Look-up: beyond the last age, the last cell; below the first listed age, 0." A column without cells "gives 0".
 unfoldable pub cellAt : Column → ℕ → ℕ

@@ -1,9 +1,10 @@
 // The column consulted, the look-up of a cell by age, and the decay of residue.
 ghost use mathlib.Core.Path.{_≡_};
 ghost use Rattle.schedules.specs.{Kind, listed};
-ghost use Rattle.rates.specs.{ownNumber, consulted, firstAge, cellAt, rateSix, rateFour, shareAfter};
+ghost use Rattle.rates.specs.{ownNumber, columnOf, firstAge, cellAt, rateSix, rateFour, shareAfter};
 use forest::Forest;
 use schedules::Kind;
+use schedules::Place;
 use units::Rate;
 
 // The tenths of a residue that are left, by the years since the clearing.
@@ -44,26 +45,23 @@ fn own_number(kind: Kind, forest: Forest) -> usize
 }
 
 // The cells of the column consulted: a part of the participant's table or, where that column has none, of the default one.
-fn column<'a>(own: &'a [u16], default: &'a [u16], kind: Kind, forest: Forest) -> &'a [u16]
-    ensures { λ r. ⌜ now r ≡ consulted (now (own .entry)) (now (default .entry)) kind forest .cells ⌝ }
+fn column<'a>(own: &'a [u16], default: &'a [u16], number: usize, place: Place) -> &'a [u16]
+    ensures { λ r. ⌜ now r ≡ columnOf (now (own .entry)) (now (default .entry)) number place .cells ⌝ }
 {
-    let number = own_number(kind, forest);
     if table_parts::column_length(own, number) == 0 {
-        let place = schedules::place_six(kind, forest);
         return table_parts::part(default, place.start, place.len);
     }
     table_lent::column(own, number)
 }
 
 // The first age of the column consulted.
-fn first_age(own: &[u16], kind: Kind, forest: Forest) -> usize
-    ensures { λ r. ⌜ r ≡ firstAge (now (own .entry)) kind forest ⌝ }
+fn first_age(own: &[u16], number: usize, place: Place) -> usize
+    ensures { λ r. ⌜ r ≡ firstAge (now (own .entry)) number place ⌝ }
 {
-    if table_parts::column_length(own, own_number(kind, forest)) == 0 {
-        let place = schedules::place_six(kind, forest);
-        return place.first;
+    if table_parts::column_length(own, number) != 0 {
+        return 0;
     }
-    0
+    place.first
 }
 
 // The cell of a column at an age.
@@ -97,8 +95,10 @@ pub fn rate_six<'a>(
     if let Forest::Bare = forest {
         return Rate(0);
     }
-    let cells = column(own, default, kind, forest);
-    let first = first_age(own, kind, forest);
+    let number = own_number(kind, forest);
+    let place = schedules::place_six(kind, forest);
+    let cells = column(own, default, number, place);
+    let first = first_age(own, number, place);
     Rate(cell_at(cells, first, age))
 }
 

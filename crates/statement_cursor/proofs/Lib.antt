@@ -1,2 +1,4 @@
 pub mod Fields
+pub mod Leading
+pub mod Numbers
 pub mod Starts

@@ -1,8 +1,9 @@
 -- What stands at a place of a list of bytes, and the place after it. The place 0 is nowhere. The reader's own:
 -- `accepts-just-when` (theorem_round_trips) says what it comes to by `carried` and `statementOf` alone.
-use Rattle.laws.specs.{ℕ, _+_, cond, _&&_, List, eqb, leb, ltb, length, take, drop, getD}
+use Rattle.laws.specs.{ℕ, _+_, _≤_, _≡_, cond, _&&_, List, eqb, leb, ltb, length, take, drop, getD}
+use Prim.Native.Nat.{_<_}
 use Rattle.text.specs.{comma, widthTo}
-use Rattle.text_number.specs.{Number, numberIn}
+use Rattle.text_number.specs.{Number, more, numberIn}
 use Rattle.forest.specs.{Named, named, Forest}
 use Rattle.statement_cursor.specs.declared.NumberField.{NumberField}
 use Rattle.statement_cursor.specs.declared.TypeField.{TypeField}
@@ -28,6 +29,20 @@ numberBefore most next Number.Malformed = noNumber
 
 unfoldable pub numberAt : List ℕ → ℕ → ℕ → ℕ → NumberField
 numberAt s at end most = fieldBy noNumber (λ next bytes. numberBefore most next (numberIn bytes)) s at end
+
+-- the bytes of a field from a place on
+abbrev pub fieldFrom : List ℕ → ℕ → ℕ → List ℕ
+fieldFrom s at end = take (widthTo end (drop at s)) (drop at s)
+
+-- the number `value` of the digits from `at` to `stop`, with what is left of the field behind them, is what all of it is
+pub record Leads (s : List ℕ) (at end value stop : ℕ) : Type 0 where
+  pub behind : at ≤ stop
+  pub ended : stop + widthTo end (drop stop s) ≡ at + widthTo end (drop at s)
+  pub read : more (Number.Value value) (fieldFrom s stop end) ≡ more (Number.Value 0) (fieldFrom s at end)
+
+-- at `stop` a field that is a value ends
+abbrev pub Stops : List ℕ → ℕ → ℕ → ℕ → Type 0
+Stops s end value stop = stop < length s → (v : ℕ) → more (Number.Value value) (fieldFrom s stop end) ≡ Number.Value v → getD s stop 0 ≡ end
 
 unfoldable pub typeBefore : ℕ → Named → TypeField
 typeBefore next (Named.Listed forest) = record { forest = forest; next = next }

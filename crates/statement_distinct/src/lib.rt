@@ -1,6 +1,6 @@
-// Whether no two areas, or sub-areas, bear the same number.
+// Whether no number stands twice, and whether no two areas, or sub-areas, bear the same number.
 ghost use mathlib.Core.Path.{_≡_};
-ghost use Prim.Native.Nat.{_+_};
+ghost use Prim.Native.Nat.{ℕ, min};
 ghost use lib.Dec.{eqb};
 ghost use lib.ListN.{drop};
 ghost use Rattle.laws.specs.{some, distinct};
@@ -10,72 +10,65 @@ use holding::Holding;
 use holding::MOST_AREAS;
 use holding::MOST_SUBS;
 
-// Whether a sub-area from a place on bears the number.
-fn sub_bears(area: Area, from: usize, number: u8) -> bool
-    ensures { λ r. ⌜ r ≡ some (λ (sub : Sub). eqb (sub .number) number) (drop from (subsOf area)) ⌝ }
+// Whether one of the numbers from a place on is the number.
+fn bears(numbers: &[u16], from: usize, number: u16) -> bool
+    ensures { λ r. ⌜ r ≡ some (λ (n : ℕ). eqb n number) (drop from (now (numbers .entry))) ⌝ }
 {
-    let n = area.count;
     let mut found = false;
     let mut i = from;
-    while i < MOST_SUBS {
-        if n <= i {
-            return found;
-        }
-        found = found | (area.subs[i].number == number);
+    while i < numbers.len() {
+        found = found | (numbers[i] == number);
         i += 1;
     }
     found
+}
+
+pub fn numbers(numbers: &[u16]) -> bool
+    ensures { λ r. ⌜ r ≡ distinct (λ (n : ℕ). n) (now (numbers .entry)) ⌝ }
+{
+    let mut apart = true;
+    let mut i: usize = 0;
+    while i < numbers.len() {
+        let number = numbers[i];
+        let again = bears(numbers, i + 1, number);
+        apart = apart & !again;
+        i += 1;
+    }
+    apart
+}
+
+fn lesser(a: usize, b: usize) -> usize
+    ensures { λ r. ⌜ r ≡ min a b ⌝ }
+{
+    if b < a {
+        return b;
+    }
+    a
 }
 
 pub fn subs(area: Area) -> bool
     ensures { λ r. ⌜ r ≡ distinct (λ (sub : Sub). sub .number) (subsOf area) ⌝ }
 {
-    let n = area.count;
-    let mut apart = true;
+    let n = lesser(area.count, MOST_SUBS);
+    let mut borne = [0u16; MOST_SUBS];
     let mut i: usize = 0;
-    while i < MOST_SUBS {
-        if n <= i {
-            return apart;
-        }
-        let number = area.subs[i].number;
-        let again = sub_bears(area, i + 1, number);
-        apart = apart & !again;
+    while i < n {
+        let sub = area.subs[i];
+        borne[i] = sub.number as u16;
         i += 1;
     }
-    apart
-}
-
-// Whether an area from a place on bears the number.
-fn area_bears(holding: Holding, from: usize, number: u16) -> bool
-    ensures { λ r. ⌜ r ≡ some (λ (area : Area). eqb (area .number) number) (drop from (areasOf holding)) ⌝ }
-{
-    let n = holding.count;
-    let mut found = false;
-    let mut i = from;
-    while i < MOST_AREAS {
-        if n <= i {
-            return found;
-        }
-        found = found | (holding.areas[i].number == number);
-        i += 1;
-    }
-    found
+    numbers(&borne[0..n])
 }
 
 pub fn areas(holding: Holding) -> bool
     ensures { λ r. ⌜ r ≡ distinct (λ (area : Area). area .number) (areasOf holding) ⌝ }
 {
-    let n = holding.count;
-    let mut apart = true;
+    let n = lesser(holding.count, MOST_AREAS);
+    let mut borne = [0u16; MOST_AREAS];
     let mut i: usize = 0;
-    while i < MOST_AREAS {
-        if n <= i {
-            return apart;
-        }
-        let number = holding.areas[i].number;
-        let again = area_bears(holding, i + 1, number);
-        apart = apart & !again;
+    while i < n {
+        borne[i] = holding.areas[i].number;
         i += 1;
     }
-    apart
+    numbers(&borne[0..n])
 }

@@ -24,6 +24,10 @@ module _ {l : List ℕ} {at : ℕ} {m : List ℕ} {p : ℕ} where
   pub put-last : {j : ℕ} {xs : List ℕ} → Put j l at xs m p → Put j l at (xs ++ []) m p
   put-last {j} {xs} a = put-as (sym (append-nil xs)) a
 
+-- bytes put are as long as they are
+pub put-whole : {l : List ℕ} {at : ℕ} {bytes : List ℕ} {m : List ℕ} {p : ℕ} → Wrote l at bytes m p → Put (length bytes) l at bytes m p
+put-whole w = record { wrote = w; few = omega arith }
+
 pub put-one : {l : List ℕ} {at b : ℕ} {m : List ℕ} {p : ℕ} → Wrote l at (b ∷ []) m p → Put 1 l at (b ∷ []) m p
 put-one w = record { wrote = w; few = omega arith }
 

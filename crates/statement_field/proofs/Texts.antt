@@ -1,13 +1,9 @@
 -- The texts of what stands in an array, its first n elements, put a text a turn: before the i-th turn those of the first i are put.
-use Rattle.laws.proofs.{ℕ, _+_, _*_, _≤_, _<_, _≡_, refl, sym, ap, _∙_, List, [], _∷_, _++_, append-assoc, append-nil, arith, add-one, length, take, getD, length-take, take-suc, take-all, getD-take}
+use Rattle.laws.proofs.{ℕ, _+_, _*_, _≤_, _<_, _≡_, sym, ap, _∙_, List, [], _∷_, _++_, append-nil, arith, add-one, length, take, getD, length-take, take-suc, take-all, getD-take}
 use Rattle.statement_format.specs.{texts}
+use Rattle.statement_format.proofs.Texts.{texts-append}
 use Rattle.statement_field.specs.{Put}
 use Rattle.statement_field.proofs.Puts.{put-then, put-as, put-within}
-
-texts-append : {A : Type 0} (f : A → List ℕ) (xs ys : List A) → texts f (xs ++ ys) ≡ texts f xs ++ texts f ys
-unfolding texts
-texts-append f [] ys = refl
-texts-append f (x ∷ xs) ys = ap (λ (t : List ℕ). f x ++ t) (texts-append f xs ys) ∙ sym (append-assoc (f x) (texts f xs) (texts f ys))
 
 module _ {A : Type 0} (f : A → List ℕ) (l : List A) (n i : ℕ) where
   texts-next : (d : A) → i < n → i < length l → texts f (take i (take n l)) ++ f (getD l i d) ≡ texts f (take (i + 1) (take n l))

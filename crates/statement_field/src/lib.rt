@@ -17,10 +17,14 @@ pub fn put_start(out: &mut [u8], at: usize, letter: u8) -> usize
     text::put_byte(out, next, b',')
 }
 
-// Puts a number and the byte that ends its field.
+// Puts a number and the byte that ends its field. Most numbers of a statement have one digit, which is put without a call.
 pub fn put_field(out: &mut [u8], at: usize, number: u64, end: u8) -> usize
     ensures { λ r. ⌜ Put longWidth (now (out .entry)) at (numberText number end) (now (out .exit)) r ⌝ }
 {
+    if number < 10 {
+        let next = text::put_byte(out, at, b'0' + number as u8);
+        return text::put_byte(out, next, end);
+    }
     let next = text::put_number(out, at, number);
     text::put_byte(out, next, end)
 }

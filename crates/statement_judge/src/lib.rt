@@ -2,7 +2,7 @@
 ghost use mathlib.Core.Path.{_≡_};
 ghost use Prim.Native.Nat.{max};
 ghost use Rattle.laws.specs.{every};
-ghost use Rattle.holding.specs.{areasOf, subsOf, residuesIn};
+ghost use Rattle.holding.specs.{areasOf, subsOf, residuesIn, Area};
 ghost use Rattle.statement_carried.specs.{residueCarried, subCarried, areaCarried, carried};
 use holding::Area;
 use holding::Holding;
@@ -12,14 +12,15 @@ use holding::Residue;
 use holding::Sub;
 use statement_carried::OLDEST_RESIDUE;
 
-fn residue(area: Area, residue: Residue) -> bool
-    ensures { λ r. ⌜ r ≡ every (residueCarried area) (residuesIn residue) ⌝ }
+// Whether a residue is carried in any area of this opening and latest year.
+fn residue(opening: u16, latest: u16, residue: Residue) -> bool
+    ensures { λ r. ⌜ ((area : Area) → area .opening ≡ opening → area .latest ≡ latest → r ≡ every (residueCarried area) (residuesIn residue)) ⌝ }
 {
     let forest = residue.forest;
     if ranges::is_bare(forest) {
         return (residue.age == 0) & (residue.year == 0);
     }
-    (area.opening <= residue.year) & (residue.year <= area.latest) & (residue.age <= OLDEST_RESIDUE)
+    (opening <= residue.year) & (residue.year <= latest) & (residue.age <= OLDEST_RESIDUE)
 }
 
 fn greater(a: u16, b: u16) -> u16
@@ -31,8 +32,9 @@ fn greater(a: u16, b: u16) -> u16
     a
 }
 
-fn sub(area: Area, sub: Sub) -> bool
-    ensures { λ r. ⌜ r ≡ subCarried area sub ⌝ }
+// Whether a sub-area is carried in any area of this opening and latest year.
+fn sub(opening: u16, latest: u16, sub: Sub) -> bool
+    ensures { λ r. ⌜ ((area : Area) → area .opening ≡ opening → area .latest ≡ latest → r ≡ subCarried area sub) ⌝ }
 {
     let land = sub.tenths;
     let forest = sub.forest;
@@ -40,8 +42,8 @@ fn sub(area: Area, sub: Sub) -> bool
     ranges::is_sub(sub.number)
         & ranges::is_land(land)
         & ranges::is_planted(forest, sub.planted)
-        & (sub.planted <= greater(area.opening, area.latest))
-        & residue(area, left)
+        & (sub.planted <= greater(opening, latest))
+        & residue(opening, latest, left)
 }
 
 fn subs(area: Area) -> bool
@@ -55,13 +57,14 @@ fn subs(area: Area) -> bool
             return kept;
         }
         let one = area.subs[i];
-        kept = kept & sub(area, one);
+        kept = kept & sub(area.opening, area.latest, one);
         i += 1;
     }
     kept
 }
 
-fn area(area: Area) -> bool
+// The conditions of one area.
+pub fn area(area: Area) -> bool
     ensures { λ r. ⌜ r ≡ areaCarried area ⌝ }
 {
     statement_carried::fields(area) & subs(area) & statement_distinct::subs(area)

@@ -13,7 +13,7 @@ use units::Kilograms;
 use units::Tenths;
 
 // The most areas and sub-areas, as they are read.
-const AREAS_READ: u64 = holding::MOST_AREAS as u64;
+pub const AREAS_READ: u64 = holding::MOST_AREAS as u64;
 
 const SUBS_READ: u64 = holding::MOST_SUBS as u64;
 
@@ -165,8 +165,8 @@ fn read_amounts(s: &[u8], at: usize) -> AmountsRead
     }
 }
 
-// An area's line and those of its sub-areas.
-fn read_area(s: &[u8], at: usize) -> AreaRead
+// An area's line and those of its sub-areas, and the place after the last of them; the place 0 where they cannot be read.
+pub fn read_area(s: &[u8], at: usize) -> AreaRead
     ensures { λ r. ⌜ r ≡ areaLineAt (now (s .entry)) at ⌝ }
 {
     let start = statement_cursor::line(s, at, b'A');

@@ -1,27 +1,11 @@
--- A type's letters are at most two, and are the part of two bytes that holds them.
-use Rattle.laws.proofs.{_-_, _≤_, _≡_, arith, unary-clauses, length, take}
+-- A type's letters are as many of the bytes written of it as it has letters, one or two.
+use Rattle.laws.proofs.{_≤_, _<_, _≡_, [], _∷_, lt-ltb, le-ltb, getD}
 use Rattle.forest.specs.{Forest, Letters, lettersOf, lettersWritten}
 use Rattle.forest.proofs.Laws.{written-letters}
 
-pub two-letters : (f : Forest) → length (lettersOf f) ≤ 2
-unfolding lettersOf
-two-letters Forest.Bare = omega arith
-two-letters (Forest.Radiata r) = omega arith
-two-letters Forest.DouglasFir = omega arith
-two-letters Forest.ExoticSoftwoods = omega arith
-two-letters Forest.ExoticHardwoods = omega arith
-two-letters Forest.Indigenous = omega arith
+module _ (f : Forest) (x : Letters) (e : x ≡ lettersWritten f) where
+  pub two-letters : 1 < x .len → getD (x .bytes) 0 0 ∷ getD (x .bytes) 1 0 ∷ [] ≡ lettersOf f
+  two-letters h = rw (← e, lt-ltb 1 (x .len) h) at (written-letters f)
 
-pub letters-fit : (f : Forest) (x : Letters) → x ≡ lettersWritten f → x .len ≤ length (x .bytes)
-letters-fit f x e = rw e (fit f)
-  where
-    fit : (g : Forest) → lettersWritten g .len ≤ length (lettersWritten g .bytes)
-    fit Forest.Bare = omega arith
-    fit (Forest.Radiata r) = omega arith
-    fit Forest.DouglasFir = omega arith
-    fit Forest.ExoticSoftwoods = omega arith
-    fit Forest.ExoticHardwoods = omega arith
-    fit Forest.Indigenous = omega arith
-
-pub letters-are : (f : Forest) (x : Letters) → x ≡ lettersWritten f → take (x .len - 0) (x .bytes) ≡ lettersOf f
-letters-are f x e = simp unary-clauses (rw e (written-letters f))
+  pub one-letter : x .len ≤ 1 → getD (x .bytes) 0 0 ∷ [] ≡ lettersOf f
+  one-letter h = rw (← e, le-ltb 1 (x .len) h) at (written-letters f)

@@ -31,9 +31,12 @@ fn put_type(out: &mut [u8], at: usize, forest: Forest, end: u8) -> usize
     ensures { λ r. ⌜ Put typeWidth (now (out .entry)) at (typeText forest end) (now (out .exit)) r ⌝ }
 {
     let letters = forest::write(forest);
-    let len = letters.len;
     let bytes = letters.bytes;
-    let next = text::put_bytes(out, at, &bytes[0..len]);
+    let next = text::put_byte(out, at, bytes[0]);
+    if 1 < letters.len {
+        let next = text::put_byte(out, next, bytes[1]);
+        return text::put_byte(out, next, end);
+    }
     text::put_byte(out, next, end)
 }
 

@@ -18,7 +18,7 @@ use statement_field::START_WIDTH;
 use statement_sub::SUBS_WIDTH;
 
 // What an area's lines and a statement take at most, in bytes.
-const AREA_WIDTH: usize = START_WIDTH + 5 * SHORT_WIDTH + 5 * LONG_WIDTH + SUBS_WIDTH;
+pub const AREA_WIDTH: usize = START_WIDTH + 5 * SHORT_WIDTH + 5 * LONG_WIDTH + SUBS_WIDTH;
 
 pub const STATEMENT_WIDTH: usize = START_WIDTH + LONG_WIDTH + AREA_WIDTH * MOST_AREAS;
 
@@ -52,7 +52,8 @@ fn put_amounts(out: &mut [u8], at: usize, area: Area) -> usize
     statement_field::put_field(out, next, area.surrendered, b',')
 }
 
-fn put_area(out: &mut [u8], at: usize, area: Area) -> usize
+// Puts an area's line and those of its sub-areas.
+pub fn put_area(out: &mut [u8], at: usize, area: Area) -> usize
     ensures { λ r. ⌜ Put areaWidth (now (out .entry)) at (areaText area) (now (out .exit)) r ⌝ }
 {
     let next = statement_field::put_start(out, at, b'A');

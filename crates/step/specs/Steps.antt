@@ -1,5 +1,5 @@
 -- A step of a holding, and a list of steps. `own` is the participant's table, `default` the cells of Schedule 6 as they are lent.
-use Rattle.laws.specs.{ℕ, not, List, [], _∷_}
+use Rattle.laws.specs.{ℕ, Bool, true, false, not, List, [], _∷_}
 use Rattle.refusals.specs.{Refusal, Case, _⇒_, smaller}
 use Rattle.schedules.specs.{schedule6}
 use Rattle.table.specs.{isTable, judged}
@@ -22,6 +22,15 @@ acted own default looked (Act.Clear sub year) = cleared looked sub year
 acted own default looked (Act.Plant sub forest year) = planted looked sub forest year
 acted own default looked (Act.File last) = filed own default looked last
 acted own default looked Act.Withdraw = withdrawn looked
+
+-- whether it may look a rate up: the opening stock of an addition, the stocks of a return
+abbrev pub looksUp : Act → Bool
+looksUp (Act.Open opening) = false
+looksUp (Act.Add sub land forest year) = true
+looksUp (Act.Clear sub year) = false
+looksUp (Act.Plant sub forest year) = false
+looksUp (Act.File last) = true
+looksUp Act.Withdraw = false
 
 unfoldable pub applied : List ℕ → List ℕ → Holding → AreaAct → Outcome
 applied own default holding on = acted own default (lookedUp holding (on .area)) (on .act)

@@ -1,5 +1,5 @@
 -- The digits of a number: what is known of them without unfolding the definition again.
-use Rattle.laws.proofs.{ℕ, zero, suc, _+_, _*_, _/_, _%_, _^_, _≤_, _<_, _≡_, refl, ap, _∙_, cond, List, [], _∷_, _++_, ⊎-elim, arith, lt-ltb, le-ltb, ltb, length, getD, length-append}
+use Rattle.laws.proofs.{ℕ, zero, suc, _+_, _*_, _/_, _%_, _^_, _≤_, _<_, _≡_, refl, ap, _∙_, cond, List, [], _∷_, _++_, append-assoc, ⊎-elim, arith, lt-ltb, le-ltb, ltb, length, getD, length-append}
 use native.Mathlib.Nat.{pow-suc}
 use lib.ListN.{List·getD-append}
 use Rattle.laws.proofs.Order.{below-or-not}
@@ -30,14 +30,38 @@ digits-step n h = go n (omega arith)
     go zero hf = absurd (omega arith)
     go (suc f) hf = simp (le-ltb n 10 h) (ap (λ (l : List ℕ). l ++ ((48 + n % 10) ∷ [])) (steps f (n / 10) (n / 10) (omega arith) (omega arith)))
 
-pub digits-two : (n : ℕ) → 10 ≤ n → n < 100 → digits n ≡ ((48 + n / 10) ∷ []) ++ ((48 + n % 10) ∷ [])
+-- the two digits of a number below a hundred
+abbrev pub two : ℕ → List ℕ
+two n = (48 + n / 10) ∷ (48 + n % 10) ∷ []
+
+-- a number of two digits, of more, and of three, four and more than four
+pub digits-two : (n : ℕ) → 10 ≤ n → n < 100 → digits n ≡ two n
 digits-two n l h = digits-step n l ∙ ap (λ (ds : List ℕ). ds ++ ((48 + n % 10) ∷ [])) (digits-small (n / 10) (omega arith))
 
-pub digits-two-more : (n : ℕ) → 100 ≤ n → digits n ≡ (digits (n / 100) ++ ((48 + n / 10 % 10) ∷ [])) ++ ((48 + n % 10) ∷ [])
+digits-two-more : (n : ℕ) → 100 ≤ n → digits n ≡ digits (n / 100) ++ two (n % 100)
 digits-two-more n h =
     let hundredth : n / 10 / 10 ≡ n / 100 = omega arith in
+    let tens : n / 10 % 10 ≡ n % 100 / 10 = omega arith in
+    let ones : n % 10 ≡ n % 100 % 10 = omega arith in
     digits-step n (omega arith)
     ∙ ap (λ (ds : List ℕ). ds ++ ((48 + n % 10) ∷ [])) (digits-step (n / 10) (omega arith) ∙ ap (λ (k : ℕ). digits k ++ ((48 + n / 10 % 10) ∷ [])) hundredth)
+    ∙ append-assoc (digits (n / 100)) ((48 + n / 10 % 10) ∷ []) ((48 + n % 10) ∷ [])
+    ∙ ap (λ (k : ℕ). digits (n / 100) ++ ((48 + k) ∷ (48 + n % 10) ∷ [])) tens ∙ ap (λ (k : ℕ). digits (n / 100) ++ ((48 + n % 100 / 10) ∷ (48 + k) ∷ [])) ones
+
+pub digits-three : (n : ℕ) → 100 ≤ n → n < 1000 → digits n ≡ ((48 + n / 100) ∷ []) ++ two (n % 100)
+digits-three n l h = digits-two-more n l ∙ ap (λ (ds : List ℕ). ds ++ two (n % 100)) (digits-small (n / 100) (omega arith))
+
+pub digits-four : (n : ℕ) → 1000 ≤ n → n < 10000 → digits n ≡ two (n / 100) ++ two (n % 100)
+digits-four n l h = digits-two-more n (omega arith) ∙ ap (λ (ds : List ℕ). ds ++ two (n % 100)) (digits-two (n / 100) (omega arith) (omega arith))
+
+pub digits-four-more : (n : ℕ) → 10000 ≤ n → digits n ≡ (digits (n / 10000) ++ two (n % 10000 / 100)) ++ two (n % 10000 % 100)
+digits-four-more n h =
+    let far : n / 100 / 100 ≡ n / 10000 = omega arith in
+    let high : n / 100 % 100 ≡ n % 10000 / 100 = omega arith in
+    let low : n % 100 ≡ n % 10000 % 100 = omega arith in
+    digits-two-more n (omega arith) ∙ ap (λ (ds : List ℕ). ds ++ two (n % 100)) (digits-two-more (n / 100) (omega arith))
+    ∙ ap (λ (k : ℕ). (digits k ++ two (n / 100 % 100)) ++ two (n % 100)) far
+    ∙ ap (λ (k : ℕ). (digits (n / 10000) ++ two k) ++ two (n % 100)) high ∙ ap (λ (k : ℕ). (digits (n / 10000) ++ two (n % 10000 / 100)) ++ two k) low
 
 -- a digit behind a number's digits
 pub digits-snoc : (v d : ℕ) → 0 < v → d < 10 → digits (v * 10 + d) ≡ digits v ++ ((48 + d) ∷ [])

@@ -62,7 +62,7 @@ there-and-back n h = digits-read n ∙ simp (lt-ltb n (room * 10) h)
 -- ---- only digits are read
 
 -- no value comes of what is large or malformed
-stuck : (n : Number) (bs : List ℕ) (v : ℕ) → more n bs ≡ Number.Value v → (n ≡ Number.Large → ⊥) × (n ≡ Number.Malformed → ⊥)
+pub stuck : (n : Number) (bs : List ℕ) (v : ℕ) → more n bs ≡ Number.Value v → (n ≡ Number.Large → ⊥) × (n ≡ Number.Malformed → ⊥)
 unfolding more append
 stuck n [] v e = ((λ q. let z : _≡_ {A = ℕ} 0 1 = cc in omega arith), (λ q. let z : _≡_ {A = ℕ} 0 1 = cc in omega arith))
 stuck n (b ∷ bs) v e = go (leb 48 b && leb b 57) (stuck (append n b) bs v e)

@@ -6,6 +6,7 @@ use Rattle.text.specs.{digits}
 use Rattle.holding.specs.{Residue, Sub, Area, Holding, areasOf, subsOf, emptyArea}
 use Rattle.statement_format.specs.{startText, numberText, typeText, joined, texts, residueText, subText, flag, yearsText, amountsText, areaText, statementOf}
 use Rattle.statement_format.proofs.Residues.{sub-text}
+use Rattle.statement_format.proofs.Texts.{texts-append}
 use Rattle.theorem_demand_three.specs.{areaLine}
 
 -- bytes that end with a line's end
@@ -64,11 +65,6 @@ count-ends area =
 area-ends : (area : Area) → EndsLine (areaText area)
 unfolding areaText
 area-ends area = pieces-end (startText 65 ∷ yearsText area ∷ amountsText area ∷ []) _ (count-ends area)
-
-texts-append : {A : Type 0} (text : A → List ℕ) (l m : List A) → texts text (l ++ m) ≡ texts text l ++ texts text m
-unfolding texts
-texts-append text [] m = refl
-texts-append text (a ∷ l) m = ap (λ (r : List ℕ). text a ++ r) (texts-append text l m) ∙ sym (append-assoc (text a) (texts text l) (texts text m))
 
 -- the line of an area
 abbrev pub lineOf : Area → List ℕ

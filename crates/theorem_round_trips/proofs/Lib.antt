@@ -1,12 +1,6 @@
-pub mod Places
-pub mod Widths
-pub mod Fields
-pub mod Values
-pub mod Starts
 pub mod Arrays
 pub mod Items
 pub mod Fitting
 pub mod WrittenReads
 pub mod ReadWrites
-pub mod Accepted
 pub mod Trips

@@ -12,10 +12,10 @@ use Rattle.theorem_keeping.proofs.Keeping.{step-keeps, list-keeps, reached-kept
 use Rattle.statement_format.specs.{startText, joined, statementOf}
 use Rattle.statement_parse.specs.{holdingAt}
 use Rattle.statement.specs.{Read, readOf}
-use Rattle.theorem_round_trips.proofs.Places.{Stands, stands-whole, whole-stands}
+use Rattle.statement_places.proofs.Places.{Stands, stands-whole, whole-stands}
 use Rattle.theorem_round_trips.proofs.WrittenReads.{holding-here}
 use Rattle.theorem_round_trips.proofs.ReadWrites.{holding-there, holding-tidy}
-use Rattle.theorem_round_trips.proofs.Accepted.{accepted-read, read-accepted, read-holding}
+use Rattle.statement.proofs.Accepted.{accepted-read, read-accepted, read-holding}
 
 statement-some : (holding : Holding) → 0 < length (statementOf holding)
 unfolding statementOf joined startText

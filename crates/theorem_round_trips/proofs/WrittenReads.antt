@@ -7,9 +7,9 @@ use Rattle.statement_parse.specs.{SubRead, AmountsRead, AreaRead, most8, most16
 use Rattle.theorem_keeping.specs.{Kept}
 use Rattle.theorem_keeping.proofs.Register.{Register}
 use Rattle.theorem_keeping.proofs.Areas.{areaNumber, subNumber}
-use Rattle.theorem_round_trips.proofs.Places.{Stands, Pieces, piece-first, piece-rest, piece-last}
-use Rattle.theorem_round_trips.proofs.Values.{number-here, type-here}
-use Rattle.theorem_round_trips.proofs.Starts.{start-here, line-here}
+use Rattle.statement_places.proofs.Places.{Stands, Pieces, piece-first, piece-rest, piece-last}
+use Rattle.statement_places.proofs.Values.{number-here, type-here}
+use Rattle.statement_places.proofs.Starts.{start-here, line-here}
 use Rattle.theorem_round_trips.proofs.Items.{register-here}
 use Rattle.theorem_round_trips.proofs.Fitting.{SubFits, AreaFits, holding-fits}
 

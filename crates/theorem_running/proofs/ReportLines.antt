@@ -9,7 +9,7 @@ use Rattle.step_outcome.specs.{Report}
 use Rattle.statement_format.specs.{startText, numberText, joined, texts}
 use Rattle.book_print.specs.{lossText, changeText, reportText, pairText, refusalText, endText}
 use Rattle.book_listing.specs.{linesOf}
-use Rattle.theorem_round_trips.proofs.Widths.{High, high-digits}
+use Rattle.statement_places.proofs.Widths.{High, high-digits}
 use Rattle.theorem_running.specs.{isReport, ended, reportsIn}
 
 -- bytes in front of a line are of that line

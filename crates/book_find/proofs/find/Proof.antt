@@ -7,7 +7,7 @@ returns-3 : tie.Need-returns-3
 returns-3 c =
     let told = c .before .before in
     let read = told .before .before .before .parsed .given .1 ∙ ap Parsed.Taken (told .entry .given .1) in
-    rw read (simp (c .find-area .ensures))
+    rw read (simp (c .place-in .ensures))
 
 pub find-spec : {M : Type 1} → Rattle.book_find.proofs.find.Statement.statement M
 find-spec = tie.close (tie.spec (λ c. search needs) (λ c. search needs) (λ c κs. search needs) (λ c. search needs) (λ c. search needs) (λ c κs. search needs)

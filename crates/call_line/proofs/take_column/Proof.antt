@@ -1,36 +1,87 @@
--- `call_line::take_column` meets its contract: a verdict that is clear has grown the table, which stands in front of the numbers.
-use Rattle.laws.proofs.{sym, ap, _∙_, needs}
-use Rattle.call_output.specs.{tableBytes}
-use Rattle.call_line.proofs.Given.{gives-refused, gives-written, gives-as, column-weighed, column-fits, column-front}
+-- `call_line::take_column` meets its contract: a line that is refused as a T line decides, then a refused table, and then the column of the cells that
+-- were read.
+use Rattle.laws.proofs.{refl, sym, _∙_, replicate, arith, needs}
+use Rattle.line.proofs.Columns.{column-refused, column-entered}
+use Rattle.table_grow.specs.{lineCells}
+use Rattle.table_grow.proofs.Cells.{Room, read-verdict, read-number, read-few, read-cells}
+use Rattle.call_line.proofs.Order.{line-decides, table-decides}
+use Rattle.call_line.proofs.Given.{gives-refused, table-refused, table-read, no-table, call-column}
+use Rattle.call_line.proofs.take_column.Statement.{statement}
 use Rattle.call_line.proofs.take_column.Tie as tie
 
-part-write-table-end : tie.Need-part-write-table-end
-part-write-table-end c =
-    let told = c .before .before in
-    let l = told .before .before in
-    let g = l .before in
-    let f = g .before .before in
-    column-fits _ _ _ _ _ _ (f .read-from .ensures) (g .grow .ensures) (l .least .ensures) (told .enum-told .given .1)
+-- what was read of the line
+has-read : (c : tie.After-read-column) → Room (c .before .before .before .before .before .before .args .line .now) (replicate 101 0) (c .read-column .last .1 .0) (c .read-column .result)
+unfolding lineCells
+has-read c = record { places = refl; told = c .read-column .ensures .0; left = c .read-column .ensures .1 }
+
+part-take-cells-end-2 : tie.Need-part-take-cells-end-2
+part-take-cells-end-2 c =
+    let told = c .before .before .before .before in
+    let read = has-read (told .before .before .before) in
+    omega (arith, read-few read (sym (read-verdict read) ∙ told .enum-told .given .1))
 
 returns : tie.Need-returns
 returns c =
-    let l = c .before .before .before in
-    let g = l .before in
-    let f = g .before .before in
-    gives-refused _ _ _ _ (sym (column-weighed _ _ _ _ _ _ (f .read-from .ensures) (g .grow .ensures) (l .least .ensures)) ∙ c .before .v .given .1)
+    let w = c .before .before in
+    let i = w .before .before .before .before .before .before in
+    let told = i .before in
+    let r = told .before .before .before in
+    let a = r .before .before .before .before .before .before .args in
+    let read = has-read r in
+    let clear = sym (read-verdict read) ∙ told .enum-told .given .1 in
+    let none = no-table (a .table .now) (i .if1 .taken) in
+    call-column (a .statement .now) (a .table .now) (a .line .now) (a .out .now) clear _ _ _ _ _ (read-number read clear) (read-cells read clear) (none .0)
+    (none .1) (w .take-cells .ensures)
+
+part-take-cells-end-3 : tie.Need-part-take-cells-end-3
+part-take-cells-end-3 c =
+    let t = c .before .before .before .before .before in
+    let a = t .before .before .before .before .before .before .before .before .before .before .before .before .args in
+    omega (arith, table-read (a .table .now) _ _ (t .read-table .ensures .0) (c .before .before .own2 .given .1) .few)
+
+part-take-cells-end-4 : tie.Need-part-take-cells-end-4
+part-take-cells-end-4 c =
+    let told = c .before .before .before .before .before .before .before .before .before .before in
+    let read = has-read (told .before .before .before) in
+    omega (arith, read-few read (sym (read-verdict read) ∙ told .enum-told .given .1))
 
 returns-2 : tie.Need-returns-2
 returns-2 c =
-    let w = c .before .before in
-    let told = w .before .before .before .before .before in
-    let l = told .before .before in
-    let g = l .before in
-    let f = g .before .before in
-    let clear = told .enum-told .given .1 in
-    gives-as (column-weighed _ _ _ _ _ _ (f .read-from .ensures) (g .grow .ensures) (l .least .ensures))
-    (ap tableBytes (column-front _ _ _ _ _ _ (f .read-from .ensures) (g .grow .ensures) (l .least .ensures) clear))
-    (gives-written _ _ _ _ _ clear (w .write-table .ensures))
+    let r = c .before .before .before .before in
+    let x = r .before .before .before .before .before .before in
+    let a = x .args in
+    gives-refused _ _ _ _
+    (line-decides (a .statement .now) (a .table .now) (a .line .now) _
+    (column-refused (a .line .now) _ (x .pre) (sym (read-verdict (has-read r)) ∙ c .before .line-verdict .given .1)))
 
-pub take-column-spec : {M : Type 1} → Rattle.call_line.proofs.take_column.Statement.statement M
-take-column-spec = tie.close (tie.spec (λ c κs. search needs) (λ c κs. search needs) (λ c κs. search needs) (λ c. search needs) (λ c. search needs)
-    (λ c. search needs) (λ c. search needs) part-write-table-end (λ c κs. search needs) returns (λ c. search needs) returns-2)
+returns-3 : tie.Need-returns-3
+returns-3 c =
+    let t = c .before .before .before .before in
+    let told = t .before .before .before in
+    let r = told .before .before .before in
+    let a = r .before .before .before .before .before .before .args in
+    let clear = sym (read-verdict (has-read r)) ∙ told .enum-told .given .1 in
+    gives-refused _ _ _ _
+    (table-decides (a .statement .now) (a .table .now) (a .line .now) _ (column-entered (a .line .now) clear) _
+    (table-refused _ _ _ (t .read-table .ensures .0) (c .before .own .given .1)))
+
+returns-4 : tie.Need-returns-4
+returns-4 c =
+    let w = c .before .before in
+    let o = w .before .before .before .before .before .before .before in
+    let t = o .before .before .before in
+    let told = t .before .before .before in
+    let r = told .before .before .before in
+    let a = r .before .before .before .before .before .before .args in
+    let read = has-read r in
+    let clear = sym (read-verdict read) ∙ told .enum-told .given .1 in
+    let table = table-read (a .table .now) _ _ (t .read-table .ensures .0) (o .own2 .given .1) in
+    call-column (a .statement .now) (a .table .now) (a .line .now) (a .out .now) clear _ _ _ _ _ (read-number read clear) (read-cells read clear) (table .clear)
+    (table .front _ _ (t .read-table .ensures .1)) (w .take-cells2 .ensures)
+
+pub take-column-spec : {M : Type 1} → statement M
+take-column-spec = tie.close (tie.spec (λ c. search needs) (λ c κs. search needs) (λ c. search needs) (λ c. search needs)
+    (λ c. search needs) (λ c. search needs) (λ c. search needs) (λ c. search needs) (λ c. search needs) part-take-cells-end-2 (λ c κs. search needs)
+    (λ c. search needs) returns (λ c. search needs) (λ c κs. search needs) (λ c. search needs) (λ c. search needs) (λ c. search needs)
+    (λ c. search needs) part-take-cells-end-3 (λ c. search needs) (λ c. search needs) part-take-cells-end-4 (λ c κs. search needs) returns-2 returns-3
+    (λ c. search needs) returns-4)

@@ -1,40 +1,40 @@
--- `statement_distinct::areas` meets its contract. The loop's invariant: what stands apart so far and from here on makes the whole.
-use Rattle.laws.proofs.{_-_, _&&_, _≡_, refl, arith, length, take, drop, needs}
-use Rattle.laws.specs.{distinct}
+-- `statement_distinct::areas` meets its contract. The loop's invariant: the numbers of the first i areas stand at the front.
+use Rattle.laws.proofs.{_-_, _≤_, _≡_, refl, _∙_, arith, length, take, length-set, map, needs}
 use Rattle.laws.proofs.Standing.{as-long}
-use Rattle.laws.proofs.Turns.{distinct-end, distinct-out, distinct-more}
 use Rattle.holding.specs.{Area, mostAreas}
+use Rattle.statement_distinct.proofs.Borne.{borne-more, standing-borne}
 use Rattle.statement_distinct.proofs.areas.Tie as tie
 
 abbrev Inv-loop : tie.InvT-loop
-Inv-loop holding n apart₀ i₀ apart i =
-    (apart && distinct (λ (x : Area). x .number) (drop i (take n (holding .areas)))) ≡ distinct (λ (x : Area). x .number) (take n (holding .areas))
+Inv-loop holding n borne₀ i₀ borne i = (i ≤ n) × (length borne ≡ mostAreas) × (take i borne ≡ map (λ (x : Area). x .number) (take i (holding .areas)))
 
 abbrev μ-loop : tie.MeasureT-loop
-μ-loop holding n apart₀ i₀ apart i = mostAreas - i
+μ-loop holding n borne₀ i₀ borne i = n - i
 
 all-places : (c : tie.Start Inv-loop μ-loop) → length (c .args .t1 .areas) ≡ mostAreas
 all-places c = search (needs, as-long)
 
 loop-holds : tie.Need-loop-holds Inv-loop μ-loop
-loop-holds c = refl
-
-returns : tie.Need-returns Inv-loop μ-loop
-returns c = distinct-end _ _ _ _ _ _ (c .before .before .loop .inv) (c .if1 .taken)
+loop-holds c = (search needs, refl, refl)
 
 loop-again : tie.Need-loop-again Inv-loop μ-loop
 loop-again c =
-    let b = c .before .before .before in
-    let a = b .before .args in
-    distinct-more (λ (x : Area). x .number) (a .t1 .areas) (a .t1 .count) (b .loop .i) (b .loop .apart) _ (b .loop .inv) _ _ (c .before .if1 .left) (omega (arith, all-places (b .before)))
-    (c .area-bears .ensures)
+    let l = c .before .loop in
+    let a = c .before .before .before in (
+      search needs,
+      simp length-set (l .inv .1),
+      borne-more (λ (x : Area). x .number) (a .args .t1 .areas) (l .borne) _ (l .i) (omega (arith, all-places a)) (omega arith) (l .inv .2),
+    )
 
-returns-2 : tie.Need-returns-2 Inv-loop μ-loop
-returns-2 c =
-    let b = c .before in
-    let a = b .before .args in
-    distinct-out (λ (x : Area). x .number) (a .t1 .areas) (a .t1 .count) (b .loop .i) _ _ (b .loop .inv) (omega (arith, all-places (b .before)))
+returns : tie.Need-returns Inv-loop μ-loop
+returns c =
+    let l = c .before .before .before .before .loop in
+    let b = c .before .before .before .before .before in
+    let a = b .before in
+    c .numbers .ensures
+    ∙ standing-borne (λ (x : Area). x .number) (a .args .t1 .areas) (l .borne) (a .args .t1 .count) (l .i) (b .lesser .result - 0) (omega (arith, all-places a)) (omega arith) (l .inv .2)
 
 pub areas-spec : {M : Type 1} → Rattle.statement_distinct.proofs.areas.Statement.statement M
-areas-spec = tie.close (tie.spec Inv-loop μ-loop loop-holds returns (λ c. search needs) (λ c. search needs) (λ c. search needs) (λ c κs. search needs)
-    (λ c. search needs) (λ c. search needs) loop-again returns-2)
+areas-spec = tie.close (tie.spec Inv-loop μ-loop (λ c κs. search needs) loop-holds (λ c. search needs) (λ c. search needs) (λ c. search needs)
+    (λ c. search needs) (λ c. search needs) (λ c. search needs) loop-again (λ c. search needs) (λ c. search needs) (λ c. search needs)
+    (λ c κs. search needs) returns)

@@ -26,7 +26,7 @@ loop-again : tie.Need-loop-again Inv-loop μ-loop
 loop-again c =
     let b = c .before .before .before .before in
     let a = b .before .args in
-    every-more (subCarried (a .t1)) (a .t1 .subs) (a .t1 .count) (b .loop .i) (b .loop .kept) _ (b .loop .inv) _ _ (c .before .before .if1 .left) (omega (arith, all-places (b .before))) (c .sub .ensures)
+    every-more (subCarried (a .t1)) (a .t1 .subs) (a .t1 .count) (b .loop .i) (b .loop .kept) _ (b .loop .inv) _ _ (c .before .before .if1 .left) (omega (arith, all-places (b .before))) (c .sub .ensures (a .t1) refl refl)
 
 returns-2 : tie.Need-returns-2 Inv-loop μ-loop
 returns-2 c =

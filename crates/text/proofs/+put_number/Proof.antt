@@ -1,13 +1,15 @@
--- `text::put_number` meets its contract: the digits of a number are those of its hundredth and two more. The number itself falls at each call.
+-- `text::put_number` meets its contract: the digits of a number are up to four, or those of its ten-thousandth and four more. The number itself falls
+-- at each call.
 use Rattle.laws.proofs.{ℕ, _<_, sym, arith, needs}
 use borrow.Fn.Kinds.{In}
 use borrow.Fn.PlainCycle.{Measures, is, falls, and}
-use Rattle.text.proofs.Digits.{digits-small, digits-two, digits-two-more}
+use Rattle.text.proofs.Digits.{digits-small, digits-two, digits-three, digits-four, digits-four-more}
 use Rattle.text.proofs.Writes.{wrote-then, wrote-as}
 use Rattle.text.proofs.put_number.Reads as put-number
 use Rattle.text.proofs.put_number.Kinds as put-number-kinds
 use Rattle.text.proofs.+put_number.Lts-put_number as put-number-lts
 use Rattle.text.proofs.put_byte.Reads as put-byte-reads
+use Rattle.text.proofs.put_two.Reads as put-two-reads
 use Rattle.text.proofs.+put_number.{statement}
 use Rattle.text.proofs.+put_number.Tie.{close}
 
@@ -23,33 +25,41 @@ put-number-below t = and 1 put-number-kinds.ps (falls 1 put-number-kinds.ps _<_ 
 pub +put-number-spec : {M : Type 1} → statement M
 +put-number-spec =
     close μ-put-number λ t.
-    put-number-lts.spec (put-byte-reads.Asked, put-byte-reads.Learnt, put-number-below t, put-number.Post) (put-number-at t) put-number.Post
+    put-number-lts.spec
+    (put-byte-reads.Asked, put-byte-reads.Learnt, put-two-reads.Asked, put-two-reads.Learnt, put-number-below t, put-number.Post)
+    (put-number-at t) put-number.Post
     (λ c. omega arith)
     (λ c. omega arith)
     (λ c κs. search needs)
     (λ c. search needs)
     (λ c. wrote-as (sym (digits-small _ (c .before .before .before .before .if1 .taken))) (c .before .before .put-byte .ensures))
-    (λ c. omega arith)
-    (λ c. omega arith)
-    (λ c κs. search needs)
-    (λ c. omega arith)
-    (λ c. omega arith)
-    (λ c κs. search needs)
-    (λ c. search needs)
-    (λ c.
-    let test = c .before .before .before .before .before .before .before .before in
-    wrote-as (sym (digits-two _ (test .before .if1 .left) (test .if2 .taken)))
-    (wrote-then (c .before .before .before .before .before .before .put-byte2 .ensures) (c .before .before .put-byte3 .ensures)))
     (λ c κs. omega arith)
-    (λ c. omega arith)
-    (λ c. omega arith)
-    (λ c κs. search needs)
-    (λ c. omega arith)
-    (λ c. omega arith)
-    (λ c κs. search needs)
     (λ c. search needs)
     (λ c.
-    let tens = c .before .before .before .before .before .before in
-    let more = tens .before .before .before .before in
-    wrote-as (sym (digits-two-more _ (more .before .before .if2 .left)))
-    (wrote-then (wrote-then (more .put-number .ensures) (tens .put-byte4 .ensures)) (c .before .before .put-byte5 .ensures)))
+    let test = c .before .before .before .before in
+    wrote-as (sym (digits-two _ (test .before .if1 .left) (test .if2 .taken))) (c .before .before .put-two .ensures))
+    (λ c. omega arith)
+    (λ c. omega arith)
+    (λ c κs. search needs)
+    (λ c κs. omega arith)
+    (λ c. search needs)
+    (λ c.
+    let high = c .before .before .before .before .before .before in
+    let test = high .before .before in
+    wrote-as (sym (digits-three _ (test .before .if2 .left) (test .if3 .taken))) (wrote-then (high .put-byte2 .ensures) (c .before .before .put-two2 .ensures)))
+    (λ c κs. omega arith)
+    (λ c κs. omega arith)
+    (λ c. search needs)
+    (λ c.
+    let high = c .before .before .before .before .before .before in
+    let test = high .before .before in
+    wrote-as (sym (digits-four _ (test .before .if3 .left) (test .if4 .taken))) (wrote-then (high .put-two3 .ensures) (c .before .before .put-two4 .ensures)))
+    (λ c κs. omega arith)
+    (λ c κs. omega arith)
+    (λ c κs. omega arith)
+    (λ c. search needs)
+    (λ c.
+    let high = c .before .before .before .before .before .before in
+    let more = high .before .before .before .before in
+    wrote-as (sym (digits-four-more _ (more .before .before .if4 .left)))
+    (wrote-then (wrote-then (more .put-number .ensures) (high .put-two5 .ensures)) (c .before .before .put-two6 .ensures)))

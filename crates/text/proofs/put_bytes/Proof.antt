@@ -1,27 +1,28 @@
--- `text::put_bytes` meets its contract. The loop's invariant: the bytes before i are written.
-use Rattle.laws.proofs.{_-_, _≤_, refl, arith, add-one, needs, length, take, take-suc, take-all}
-use Rattle.text.specs.{Wrote}
-use Rattle.text.proofs.Writes.{wrote-then, wrote-as, wrote-length}
+-- `text::put_bytes` meets its contract: all bytes have room, or the first of them, or none, and what is left out lies past the end.
+use Rattle.laws.proofs.{_+_, _-_, _≤_, sym, _∙_, arith, length, needs}
+use Rattle.laws.proofs.Stores.{sets-out, sets-cut}
 use Rattle.text.proofs.put_bytes.Tie as tie
 
-abbrev Inv-loop : tie.InvT-loop
-Inv-loop out₀ at bytes next₀ i₀ out next i = (i ≤ length bytes) × Wrote out₀ at (take i bytes) out next
+returns : tie.Need-returns
+returns c =
+    let a = c .before .before .before .before .args in
+    record { stored = sym (sets-out (a .out .now) (a .at) (a .bytes .now) (c .before .if1 .taken)); place = search needs; lent = omega arith }
 
-abbrev μ-loop : tie.MeasureT-loop
-μ-loop out₀ at bytes next₀ i₀ out next i = length bytes - i
+returns-2 : tie.Need-returns-2
+returns-2 c =
+    let a = c .before .before .before .before .before .before .before .before .before .before .args in
+    let l = a .out .now in
+    let past : length l ≤ a .at + (length l - a .at - 0) = omega arith in
+    record {
+      stored = c .before .before .before .store .ensures ∙ sets-cut l (a .at) (length l - a .at - 0) (a .bytes .now) (omega arith) past;
+      place = search needs;
+      lent = omega arith;
+    }
 
-loop-holds : tie.Need-loop-holds Inv-loop μ-loop
-loop-holds c = (omega arith, record { stored = refl; place = omega arith; lent = omega arith })
-
-loop-again : tie.Need-loop-again Inv-loop μ-loop
-loop-again c =
-    let l = c .before .before .before .before .before .before .loop in
-    let s = c .before .before .before .before .before .before .before .before .before .args .bytes .now in
-    (omega arith, wrote-as (rw (add-one, take-suc s (l .i) 0 (c .before .before .before .before .before .loop-test .taken))) (wrote-then (l .inv .1) (c .before .before .put-byte .ensures)))
-
-returns : tie.Need-returns Inv-loop μ-loop
-returns c = wrote-as (take-all _ _ (c .loop-test .left)) (c .before .loop .inv .1)
+returns-3 : tie.Need-returns-3
+returns-3 c = record { stored = c .before .before .store2 .ensures; place = search needs; lent = omega arith }
 
 pub put-bytes-spec : {M : Type 1} → Rattle.text.proofs.put_bytes.Statement.statement M
-put-bytes-spec = tie.close (tie.spec Inv-loop μ-loop loop-holds (λ c. search needs) (λ c κs. search needs) (λ c. search needs) (λ c. omega arith)
-    loop-again (λ c. wrote-length (c .before .loop .inv .1)) returns)
+put-bytes-spec = tie.close (tie.spec (λ c κs. search needs) returns (λ c. search needs) (λ c. search needs) (λ c. search needs) (λ c. search needs)
+    (λ c κs. search needs) (λ c κs. search needs) (λ c. search needs) returns-2 (λ c κs. search needs) (λ c. search needs) (λ c. search needs)
+    returns-3)

@@ -1,0 +1,1 @@
+// Where the parts of a statement stand in its bytes. No code.
