@@ -2,7 +2,7 @@
 use Prim.Native.Nat.{ℕ}
 use mathlib.Core.Bool.{Bool, true, false, not}
 use mathlib.Core.Path.{_≡_, refl, sym}
-use mathlib.Core.List.{List, [], _∷_, _++_}
+use mathlib.Core.List.{List, [], _∷_, _++_, map}
 use borrow.Author.Tests.{eqb-false, ne-eqb, not-true}
 use lib.Dec.{eqb}
 use Rattle.laws.specs.{some, distinct}
@@ -40,3 +40,15 @@ module _ {A : Type 0} (numberOf : A → ℕ) where
       let other = unequal (numberOf a) (numberOf b) (or-false-left (bears (numberOf b) a) (some (bears (numberOf b)) l) n) in
       rw (none-more (numberOf a) l b (first-apart a l d) other)
       (distinct-more l b (or-false-right (bears (numberOf b) a) (some (bears (numberOf b)) l) n) (rest-distinct a l d))
+
+-- the elements of a list bear distinct numbers just where their numbers are distinct
+module _ {A : Type 0} (numberOf : A → ℕ) where
+  some-borne : (n : ℕ) (l : List A) → some (λ (m : ℕ). eqb m n) (map numberOf l) ≡ some (λ (a : A). eqb (numberOf a) n) l
+  unfolding some
+  some-borne n [] = refl
+  some-borne n (a ∷ l) = rw (some-borne n l)
+
+  pub distinct-borne : (l : List A) → distinct (λ (n : ℕ). n) (map numberOf l) ≡ distinct numberOf l
+  unfolding distinct
+  distinct-borne [] = refl
+  distinct-borne (a ∷ l) = rw (some-borne (numberOf a) l, distinct-borne l)

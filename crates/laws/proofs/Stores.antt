@@ -6,7 +6,7 @@ use mathlib.Core.List.{List, [], _∷_, _++_}
 use native.Mathlib.Numerals.{add-one}
 use native.Mathlib.Nat.{zero-add, add-zero, add-suc, suc-add}
 use native.Mathlib.Omega.{arith}
-use lib.ListN.{length, getD, set, take, drop, drop-of-length-le, length-append, length-take, length-drop, length-set, take-append-drop}
+use lib.ListN.{length, getD, set, take, drop, drop-of-length-le, length-append, length-take, length-drop, length-set, take-append-drop, replicate, length-replicate}
 use lib.Seq.{drop-cons, sets, length-sets, sets-eq, set-out, take-at, drop-append-add, drop-drop, getD-set-same, getD-set-other}
 
 module _ {A : Type 0} (s out : List A) where
@@ -22,6 +22,14 @@ module _ {A : Type 0} (s out : List A) where
   -- stored from the front, where there is room
   pub stored-in-front : length s ≤ length out → sets out 0 s ≡ s ++ drop (length s) out
   stored-in-front h = simp zero-add at (sets-eq s out 0 (omega arith))
+
+-- stored into empty places, it stands in front
+module _ {A : Type 0} (empty : A) (places : ℕ) (xs : List A) (count : ℕ) (many : length xs ≡ count) (room : count ≤ places) where
+  pub stored : sets (replicate places empty) 0 xs ≡ xs ++ drop (length xs) (replicate places empty)
+  stored = stored-in-front xs (replicate places empty) (omega (arith, length-replicate places empty))
+
+  pub stored-stands : take count (sets (replicate places empty) 0 xs) ≡ xs
+  stored-stands = ap (take count) stored ∙ take-at xs (drop (length xs) (replicate places empty)) count many
 
 -- a run under way: storing what is left from i on stores all
 module _ {A : Type 0} (s out₀ : List A) (at : ℕ) where

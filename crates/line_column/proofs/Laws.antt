@@ -1,8 +1,7 @@
 -- Cells: a turn of the scan adds a cell to what was judged and kept.
-use Rattle.laws.proofs.{ℕ, _+_, _-_, _≤_, _<_, _≡_, refl, sym, ap, _∙_, Bool, true, false, _||_, List, arith, add-one, ltb-false, ltb, length, length-map, take, drop, set, length-drop, drop-of-length-le, replicate, length-replicate, sets}
-use lib.Seq.{take-at}
+use Rattle.laws.proofs.{ℕ, _+_, _-_, _≤_, _<_, _≡_, refl, sym, ap, _∙_, Bool, true, false, _||_, List, arith, add-one, ltb-false, ltb, length, length-map, take, drop, set, length-drop, drop-of-length-le, replicate, sets}
 use Rattle.laws.specs.{some}
-use Rattle.laws.proofs.Stores.{stored-in-front}
+use Rattle.laws.proofs.Stores.{stored-in-front, stored-stands}
 use Rattle.text.specs.{comma, widthTo, split}
 use Rattle.text.proofs.Fields.{field-last, field-comma}
 use Rattle.text_number.specs.{Number}
@@ -10,8 +9,8 @@ use Rattle.text_value.specs.{fitted}
 use Rattle.text_decimal.specs.{cellIn}
 use Rattle.text_field.specs.{Places, placesOf}
 use Rattle.text_field.proofs.Laws.{count-found}
-use Rattle.refusals.specs.{Refusal, Verdict, weighed, smallest, bufferAfter}
-use Rattle.refusals.proofs.Laws.{clear-before, clear-last, ruled-out}
+use Rattle.refusals.specs.{Refusal, Verdict, weighed, bufferAfter}
+use Rattle.refusals.proofs.Laws.{RuledOut, clear-before, clear-last}
 use Rattle.table.specs.{longestColumn}
 use Rattle.line_column.specs.{cellsOf, someCell, columnOf, tenthsIn, tenthsAll, cellsFound, columnRule, readable, columnRead}
 
@@ -61,7 +60,7 @@ module _ (fs : List (List ℕ)) (h : length fs ≤ 3) where
   unfolding tenthsAll
   none-kept out = rw (drop-of-length-le fs h)
 
-cells-many : (fs : List (List ℕ)) → length (tenthsAll fs) ≡ length fs
+pub cells-many : (fs : List (List ℕ)) → length (tenthsAll fs) ≡ length fs
 unfolding tenthsAll
 cells-many fs = length-map fs tenthsIn
 
@@ -69,16 +68,13 @@ cells-many fs = length-map fs tenthsIn
 pub kept-front : (fs : List (List ℕ)) (count : ℕ) (kept : List ℕ) → length (cellsOf fs) ≤ longestColumn → count ≡ length (cellsOf fs)
     → kept ≡ sets (replicate longestColumn 0) 0 (tenthsAll (cellsOf fs)) → take (count - 0) kept ≡ tenthsAll (cellsOf fs)
 kept-front fs count kept few n q =
-    let cells = tenthsAll (cellsOf fs) in
-    let places : List ℕ = replicate longestColumn 0 in
     let many = cells-many (cellsOf fs) in
-    ap (take (count - 0)) (q ∙ stored-in-front cells places (omega (arith, many, length-replicate {A = ℕ} longestColumn 0)))
-    ∙ take-at cells (drop (length cells) places) (count - 0) (omega (arith, many))
+    ap (take (count - 0)) q ∙ stored-stands 0 longestColumn (tenthsAll (cellsOf fs)) (count - 0) (omega (arith, many)) (omega arith)
 
 -- a line that is accepted has at most 101 cells
-pub few-cells : (fs : List (List ℕ)) → smallest (columnRule fs .cases) ≡ Verdict.Accepted → length (cellsOf fs) ≤ longestColumn
+pub few-cells : (fs : List (List ℕ)) → RuledOut (columnRule fs .cases) → length (cellsOf fs) ≤ longestColumn
 unfolding columnRule
-few-cells fs e = ltb-false _ _ (ruled-out _ e 5)
+few-cells fs out = ltb-false _ _ (out 5)
 
 pub room-weighed : (v own w : Verdict) (fs : List (List ℕ)) (n room : ℕ) → own ≡ v → n ≡ length (cellsOf fs)
     → w ≡ weighed own (ltb room n) Refusal.OutputShort → w ≡ readable v fs room

@@ -1,9 +1,10 @@
 -- The numbers that the elements of a list bear, stored from the front: one more stands after each turn, and those of the standing part
 -- are distinct just where its elements bear distinct numbers.
-use Rattle.laws.proofs.{ℕ, _+_, _<_, min, _≡_, refl, sym, ap, _∙_, List, [], _∷_, _++_, map, ⊎-elim, arith, add-one, eqb, length, take, getD, set, take-suc, take-all}
+use Rattle.laws.proofs.{ℕ, _+_, _<_, min, _≡_, sym, ap, _∙_, List, [], _∷_, _++_, map, ⊎-elim, arith, add-one, length, take, getD, set, take-suc, take-all}
 use mathlib.Core.List.{map-append}
 use lib.Seq.{take-suc-set}
-use Rattle.laws.specs.{some, distinct}
+use Rattle.laws.specs.{distinct}
+use Rattle.laws.proofs.Distinct.{distinct-borne}
 use Rattle.laws.proofs.Order.{below-or-not}
 
 -- as many as there are at most
@@ -15,16 +16,6 @@ least-stand l count n least =
     (below-or-not (length l) count)
 
 module _ {A : Type 0} (numberOf : A → ℕ) where
-  some-borne : (n : ℕ) (l : List A) → some (λ (m : ℕ). eqb m n) (map numberOf l) ≡ some (λ (a : A). eqb (numberOf a) n) l
-  unfolding some
-  some-borne n [] = refl
-  some-borne n (a ∷ l) = rw (some-borne n l)
-
-  pub distinct-borne : (l : List A) → distinct (λ (n : ℕ). n) (map numberOf l) ≡ distinct numberOf l
-  unfolding distinct
-  distinct-borne [] = refl
-  distinct-borne (a ∷ l) = rw (some-borne (numberOf a) l, distinct-borne l)
-
   module _ (l : List A) (borne : List ℕ) where
     pub borne-more : (d : A) (i : ℕ) → i < length l → i < length borne → take i borne ≡ map numberOf (take i l)
         → take (i + 1) (set borne i (numberOf (getD l i d))) ≡ map numberOf (take (i + 1) l)
@@ -36,4 +27,4 @@ module _ {A : Type 0} (numberOf : A → ℕ) where
     pub standing-borne : (count i n : ℕ) → i ≡ min count (length l) → n ≡ i → take i borne ≡ map numberOf (take i l)
         → distinct (λ (n : ℕ). n) (take n borne) ≡ distinct numberOf (take count l)
     standing-borne count i n least all e =
-        rw all (ap (distinct (λ (n : ℕ). n)) e ∙ distinct-borne (take i l) ∙ ap (distinct numberOf) (least-stand l count i least))
+        rw all (ap (distinct (λ (n : ℕ). n)) e ∙ distinct-borne numberOf (take i l) ∙ ap (distinct numberOf) (least-stand l count i least))

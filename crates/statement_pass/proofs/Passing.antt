@@ -7,7 +7,7 @@ use Rattle.refusals.specs.{Refusal, Verdict}
 use Rattle.holding.specs.{Area, Holding, Found, mostAreas, areasOf, emptyArea, emptyHolding, placeFrom, findArea}
 use Rattle.holding_look.specs.{areaAt, lookedUp}
 use Rattle.statement_carried.specs.{areaCarried, carried}
-use Rattle.statement_distinct.proofs.Borne.{distinct-borne}
+use Rattle.laws.proofs.Distinct.{distinct-borne}
 use Rattle.statement_cursor.specs.{NumberField}
 use Rattle.statement_parse.specs.{holdingAt}
 use Rattle.statement_places.specs.{itemsRead, headAt, areaIn, afterArea, placeOf, startOf, endOf}

@@ -1,20 +1,12 @@
 -- Lists of lines, the sub-areas of an area or the areas of a holding: if each line stands where it is read, so do all of them together. What is read
 -- is put into empty places, and stands in front.
-use Rattle.laws.proofs.{ℕ, zero, suc, _+_, _≤_, _<_, _≡_, refl, ap, _∙_, List, _∷_, _++_, add-one, arith, length, take, drop, getD, set, replicate, length-replicate, sets}
-use lib.Seq.{take-at}
+use Rattle.laws.proofs.{ℕ, zero, suc, _+_, _≤_, _<_, _≡_, refl, ap, _∙_, List, _∷_, _++_, add-one, arith, length, take, getD, set, replicate, sets}
 use native.Mathlib.Nat.{zero-add, suc-add}
-use Rattle.laws.proofs.Stores.{stored-in-front}
+use Rattle.laws.proofs.Stores.{stored-stands}
 use Rattle.statement_format.specs.{texts}
 use Rattle.statement_parse.specs.{itemsFrom}
 use Rattle.statement_places.specs.{itemsRead, placeAfter}
 use Rattle.statement_places.proofs.Places.{There, stands-none, stands-then}
-
-module _ {A : Type 0} (empty : A) (places : ℕ) (xs : List A) (count : ℕ) (many : length xs ≡ count) (room : count ≤ places) where
-  pub stored : sets (replicate places empty) 0 xs ≡ xs ++ drop (length xs) (replicate places empty)
-  stored = stored-in-front xs (replicate places empty) (omega (arith, length-replicate places empty))
-
-  pub stored-stands : take count (sets (replicate places empty) 0 xs) ≡ xs
-  stored-stands = ap (take count) stored ∙ take-at xs (drop (length xs) (replicate places empty)) count many
 
 pub after-split : (next : ℕ → ℕ) (j k at : ℕ) → placeAfter next (j + k) at ≡ placeAfter next k (placeAfter next j at)
 unfolding placeAfter

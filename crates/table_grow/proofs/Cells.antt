@@ -4,25 +4,21 @@ use lib.Seq.{take-at}
 use Rattle.refusals.specs.{Refusal, Verdict, weighed, bufferAfter}
 use Rattle.table.specs.{longestColumn}
 use Rattle.line_column.specs.{ReadColumn, cellsOf, columnRule, tenthsIn, tenthsAll, readable, columnRead}
+use Rattle.line_column.proofs.Laws.{few-cells, cells-many}
 use Rattle.line.specs.{fieldsOf, asColumn}
 use Rattle.line.proofs.Columns.{column-cases}
 use Rattle.table_grow.specs.{lineColumn, lineCells}
 
 module _ (line : List ℕ) where
-  few-cells : asColumn line ≡ Verdict.Accepted → length (cellsOf (fieldsOf line)) ≤ longestColumn
-  unfolding columnRule
-  few-cells e = ltb-false _ _ (column-cases line e 5)
-
-  cells-many : length (lineCells line) ≡ length (cellsOf (fieldsOf line))
-  unfolding lineCells tenthsAll
-  cells-many = length-map (cellsOf (fieldsOf line)) tenthsIn
+  few : asColumn line ≡ Verdict.Accepted → length (cellsOf (fieldsOf line)) ≤ longestColumn
+  few e = few-cells (fieldsOf line) (column-cases line e)
 
   room-enough : readable (asColumn line) (fieldsOf line) longestColumn ≡ asColumn line
   unfolding readable weighed
   room-enough = go (asColumn line) refl
     where
       go : (v : Verdict) → asColumn line ≡ v → weighed v (ltb longestColumn (length (cellsOf (fieldsOf line)))) Refusal.OutputShort ≡ v
-      go Verdict.Accepted e = simp (le-ltb _ _ (few-cells e))
+      go Verdict.Accepted e = simp (le-ltb _ _ (few e))
       go (Verdict.Refused r) e = refl
 
 -- what is read of a line into 101 places: the answer, and what they then hold
@@ -53,13 +49,13 @@ module _ {line room kept : List ℕ} {read : ReadColumn} (r : Room line room kep
     read-number = ap (λ (x : ReadColumn). x .column) whole
 
     pub read-few : read .count ≤ longestColumn
-    read-few = omega (arith, ap (λ (x : ReadColumn). x .count) whole, few-cells line clear)
+    read-few = omega (arith, ap (λ (x : ReadColumn). x .count) whole, few line clear)
 
     pub read-cells : take (read .count - 0) kept ≡ lineCells line
-    unfolding bufferAfter
+    unfolding bufferAfter lineCells
     read-cells =
         ap (take (read .count - 0))
         (r .left ∙ ap (λ (n : ℕ). bufferAfter (readable (asColumn line) (fieldsOf line) n) (lineCells line) room) (r .places)
         ∙ ap (λ (v : Verdict). bufferAfter v (lineCells line) room) (room-enough line ∙ clear))
         ∙ take-at (lineCells line) (drop (length (lineCells line)) room) (read .count - 0)
-        (omega (arith, cells-many line, ap (λ (x : ReadColumn). x .count) whole))
+        (omega (arith, cells-many (cellsOf (fieldsOf line)), ap (λ (x : ReadColumn). x .count) whole))

@@ -3,7 +3,7 @@ use Rattle.laws.proofs.{ℕ, zero, suc, _-_, _≤_, _≡_, ap, _∙_, List, ari
 use lib.Seq.{length-sets, drop-at}
 use Rattle.theorem_keeping.specs.{Tidy}
 use Rattle.theorem_keeping.proofs.Register.{tidy-same}
-use Rattle.statement_places.proofs.Items.{stored, stored-stands}
+use Rattle.laws.proofs.Stores.{stored, stored-stands}
 
 drop-replicate : {A : Type 0} (a : A) (n m : ℕ) → drop n (replicate m a) ≡ replicate (m - n) a
 drop-replicate a zero m = let k : m ≡ m - 0 = omega arith in ap (λ (j : ℕ). replicate j a) k

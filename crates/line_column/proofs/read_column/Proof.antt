@@ -4,6 +4,7 @@ use Rattle.text.specs.{split}
 use Rattle.table.specs.{longestColumn}
 use Rattle.refusals.specs.{smallest}
 use Rattle.line_column.specs.{columnRule}
+use Rattle.refusals.proofs.Laws.{ruled-out}
 use Rattle.line_column.proofs.Laws.{few-cells, kept-front, room-weighed, read-refused, own-clear, cells-fit, read-clear}
 use Rattle.line_column.proofs.read_column.Tie as tie
 
@@ -18,7 +19,7 @@ fits c =
     let own = smallest (columnRule fs .cases) in
     let reached = room-weighed own _ _ fs _ (length (a .cells .now)) (j .0) (j .2) (w .weigh .ensures) in
     let clear = c .enum-told .given .1 in
-    let few = few-cells fs (own-clear own _ fs (a .cells .now) reached clear) in
+    let few = few-cells fs (ruled-out _ (own-clear own _ fs (a .cells .now) reached clear)) in
     let room = cells-fit own _ fs (a .cells .now) reached clear in
     (omega (arith, j .2, few), omega (arith, j .2, room))
 
