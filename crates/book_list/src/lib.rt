@@ -4,7 +4,6 @@ ghost use lib.ListN.{length};
 ghost use Rattle.book_listing.specs.{listingOf};
 ghost use Rattle.refusals.specs.{written, bufferAfter};
 ghost use Rattle.statement_write.specs.{writable};
-ghost use Rattle.book_list.specs.{Whole};
 use book_listing::LONGEST_BOOK;
 use refusals::Refusal;
 use refusals::Written;
@@ -23,32 +22,20 @@ const MOST_FOR_END: usize = START_WIDTH + 2 * LINE_NUMBER;
 // Room for any listing, in bytes: a book's last line may lack its end.
 pub const ROOM: usize = MOST_FOR_BYTE * (LONGEST_BOOK + 1) + MOST_FOR_END;
 
-// How many bytes a short book has at most, and room for any listing of one.
-pub const SHORT_BOOK: usize = 2048;
-
-pub const SHORT_ROOM: usize = MOST_FOR_BYTE * (SHORT_BOOK + 1) + MOST_FOR_END;
-
-// Writes the listing to the front of `out`, in which there is room for any listing: how many bytes it has.
-pub fn list_whole(book: &[u8], out: &mut [u8; ROOM]) -> usize
-    ensures { λ r. ⌜ Whole (listingOf (now (book .entry))) (now (out .entry)) (now (out .exit)) r ⌝ }
-{
-    book_run::put_listing(book, out)
-}
-
 // Writes the listing to the front of `out`: how many bytes it has, or why it is not written. Where there is room for any listing it is not measured.
 pub fn list(book: &[u8], out: &mut [u8]) -> Written
     ensures { λ r. ⌜ r ≡ written (writable (listingOf (now (book .entry))) (length (now (out .entry)))) (listingOf (now (book .entry))) ⌝ }
     ensures { λ _. ⌜ now (out .exit) ≡ bufferAfter (writable (listingOf (now (book .entry))) (length (now (out .entry)))) (listingOf (now (book .entry))) (now (out .entry)) ⌝ }
 {
     if ROOM <= out.len() {
-        let count = book_run::put_listing(book, out);
+        let count = book_parts::put_listing(book, out);
         return Written::Count(count);
     }
     let mut unkept = [0u8; 1];
-    let need = book_run::put_listing(book, &mut unkept);
+    let need = book_parts::put_listing(book, &mut unkept);
     if out.len() < need {
         return Written::Refused(Refusal::OutputShort);
     }
-    let count = book_run::put_listing(book, out);
+    let count = book_parts::put_listing(book, out);
     Written::Count(count)
 }

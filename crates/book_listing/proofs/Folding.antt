@@ -1,10 +1,10 @@
 -- One turn of the fold: a line prints its own, one more is accepted or refused, and the lines behind it follow.
-use Rattle.laws.proofs.{ℕ, _+_, _-_, _≤_, _<_, _≡_, refl, sym, ap, _∙_, List, [], _∷_, _++_, append-assoc, arith, length, take, drop, lt-ltb, le-ltb}
+use Rattle.laws.proofs.{ℕ, suc, _+_, _-_, _≤_, _<_, _≡_, refl, sym, ap, _∙_, List, [], _∷_, _++_, append-assoc, arith, length, take, drop, lt-ltb, le-ltb}
 use Rattle.text.specs.{lineEnd, widthTo}
 use Rattle.refusals.specs.{Verdict, Refusal}
 use Rattle.book_print.specs.{refusalText, endText}
 use Rattle.book_listing.specs.{linesOf, lineTaken, ifAccepted, Run, start, next, printed, runFrom, printedFrom, closing, listFrom, longestBook, listingOf}
-use Rattle.book_listing.proofs.Lines.{lines-at, lines-none}
+use Rattle.book_listing.proofs.Lines.{lines-at}
 
 pub start-none : start .accepted + start .refused ≡ 0
 unfolding start
@@ -28,28 +28,43 @@ pub list-none : (run : Run) → listFrom run [] ≡ closing run
 unfolding listFrom printedFrom runFrom
 list-none run = refl
 
+-- the lines from a place on, so many at most
 module _ (run : Run) (book : List ℕ) (i : ℕ) where
   -- a line, and those that follow
-  module _ (after : Run) (end : ℕ) (h : i < length book) (e : end ≡ i + widthTo lineEnd (drop i book)) (q : after ≡ next run (take (end - i) (drop i book))) where
-    pub from-line : printed run (take (end - i) (drop i book)) ++ printedFrom after (linesOf (drop (end + 1) book)) ≡ printedFrom run (linesOf (drop i book))
+  module _ (after : Run) (end most : ℕ) (h : i < length book) (m : 0 < most) (e : end ≡ i + widthTo lineEnd (drop i book)) (q : after ≡ next run (take (end - i) (drop i book))) where
+    -- the first line, in front of one fewer
+    first : linesOf (drop i book) ≡ take (end - i) (drop i book) ∷ linesOf (drop (end + 1) book)
+    first = lines-at book i end h e
+
+    some : suc (most - 1) ≡ most
+    some = omega arith
+
+    taken : take (end - i) (drop i book) ∷ take (most - 1) (linesOf (drop (end + 1) book)) ≡ take most (linesOf (drop i book))
+    taken = ap (λ (n : ℕ). take n (take (end - i) (drop i book) ∷ linesOf (drop (end + 1) book))) some ∙ ap (take most) (sym first)
+
+    pub from-line : printed run (take (end - i) (drop i book)) ++ printedFrom after (take (most - 1) (linesOf (drop (end + 1) book)))
+        ≡ printedFrom run (take most (linesOf (drop i book)))
     unfolding printedFrom
     from-line =
-        ap (λ (r : Run). printed run (take (end - i) (drop i book)) ++ printedFrom r (linesOf (drop (end + 1) book))) q
-        ∙ sym (ap (printedFrom run) (lines-at book i end h e))
+        ap (λ (r : Run). printed run (take (end - i) (drop i book)) ++ printedFrom r (take (most - 1) (linesOf (drop (end + 1) book)))) q
+        ∙ ap (printedFrom run) taken
 
-    pub run-line : runFrom after (linesOf (drop (end + 1) book)) ≡ runFrom run (linesOf (drop i book))
+    pub run-line : runFrom after (take (most - 1) (linesOf (drop (end + 1) book))) ≡ runFrom run (take most (linesOf (drop i book)))
     unfolding runFrom
-    run-line = ap (λ (r : Run). runFrom r (linesOf (drop (end + 1) book))) q ∙ sym (ap (runFrom run) (lines-at book i end h e))
+    run-line = ap (λ (r : Run). runFrom r (take (most - 1) (linesOf (drop (end + 1) book)))) q ∙ ap (runFrom run) taken
+
+    pub left-line : drop (most - 1) (linesOf (drop (end + 1) book)) ≡ drop most (linesOf (drop i book))
+    left-line = ap (λ (n : ℕ). drop n (take (end - i) (drop i book) ∷ linesOf (drop (end + 1) book))) some ∙ ap (drop most) (sym first)
 
   -- after the last
-  module _ (h : length book ≤ i) where
-    pub from-none : [] ≡ printedFrom run (linesOf (drop i book))
+  module _ (most : ℕ) (h : take most (linesOf (drop i book)) ≡ []) where
+    pub from-none : [] ≡ printedFrom run (take most (linesOf (drop i book)))
     unfolding printedFrom
-    from-none = sym (ap (printedFrom run) (lines-none book i h))
+    from-none = sym (ap (printedFrom run) h)
 
-    pub run-none : run ≡ runFrom run (linesOf (drop i book))
+    pub run-none : run ≡ runFrom run (take most (linesOf (drop i book)))
     unfolding runFrom
-    run-none = sym (ap (runFrom run) (lines-none book i h))
+    run-none = sym (ap (runFrom run) h)
 
 pub listing-over : (book : List ℕ) → longestBook < length book → refusalText 0 Refusal.Form ++ endText 0 1 ≡ listingOf book
 unfolding listingOf
@@ -58,13 +73,3 @@ listing-over book h = simp (lt-ltb _ _ h)
 pub listing-lines : (book : List ℕ) → length book ≤ longestBook → listFrom start (linesOf book) ≡ listingOf book
 unfolding listingOf
 listing-lines book h = simp (le-ltb _ _ h)
-
--- what the lines print and the counts of their run make the listing
-pub listing-closed : (book : List ℕ) (a r : ℕ) → length book ≤ longestBook → a ≡ runFrom start (linesOf book) .accepted → r ≡ runFrom start (linesOf book) .refused
-    → printedFrom start (linesOf book) ++ endText a r ≡ listingOf book
-unfolding listFrom
-listing-closed book a r h p q =
-    let prints = printedFrom start (linesOf book) in
-    ap (λ (n : ℕ). prints ++ endText n r) p
-    ∙ ap (λ (n : ℕ). prints ++ endText (runFrom start (linesOf book) .accepted) n) q
-    ∙ listing-lines book h

@@ -1,5 +1,5 @@
 -- The lines from a place on are the first of them, which ends where byte 10 is found, and those behind it.
-use Rattle.laws.proofs.{ℕ, _+_, _-_, _≤_, _<_, _≡_, refl, sym, ap, _∙_, List, [], _∷_, ⊎-elim, arith, length, take, drop, drop-of-length-le}
+use Rattle.laws.proofs.{ℕ, suc, _+_, _-_, _≤_, _<_, _≡_, refl, sym, ap, _∙_, Bool, true, false, cond, List, [], _∷_, ⊎-elim, arith, eqb, length, take, drop, drop-of-length-le}
 use Rattle.laws.proofs.Order.{below-or-not}
 use Rattle.text.specs.{lineEnd, widthTo, extend}
 use Rattle.text.proofs.Widths.{part-ended, part-last}
@@ -20,3 +20,14 @@ lines-at s i end h e =
     part-last lineEnd linesOf (λ b t. refl) s i end e (λ b. refl) h last
     ∙ ap (λ (t : List (List ℕ)). take (end - i) (drop i s) ∷ t) (sym (lines-none s (end + 1) (omega arith))))
     (below-or-not end (length s))
+
+-- a book has no more lines than bytes
+pub lines-few : (book : List ℕ) → length (linesOf book) ≤ length book
+unfolding linesOf extend
+lines-few [] = omega arith
+lines-few (b ∷ bs) = go (eqb b 10) (linesOf bs) (lines-few bs)
+  where
+    go : (x : Bool) (lines : List (List ℕ)) → length lines ≤ length bs → length (cond x ([] ∷ lines) (extend b lines)) ≤ suc (length bs)
+    go true lines h = omega arith
+    go false [] h = omega arith
+    go false (f ∷ fs) h = omega arith

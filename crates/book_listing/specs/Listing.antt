@@ -93,5 +93,8 @@ abbrev pub longestBook : ℕ
 longestBook = 65536
 
 -- "For a book over 65536 bytes `book` prints X,0,1 and E,0,1 alone."
+abbrev pub refusedBook : List ℕ
+refusedBook = refusalText 0 Refusal.Form ++ endText 0 1
+
 unfoldable pub listingOf : List ℕ → List ℕ
-listingOf book = cond (ltb longestBook (length book)) (refusalText 0 Refusal.Form ++ endText 0 1) (listFrom start (linesOf book))
+listingOf book = cond (ltb longestBook (length book)) refusedBook (listFrom start (linesOf book))

@@ -16,6 +16,9 @@ use units::Change;
 // What is printed for an accepted line, at most, in bytes: a return's is the longest.
 pub const REPORT_WIDTH: usize = START_WIDTH + 3 * SHORT_WIDTH + 1 + 4 * LONG_WIDTH;
 
+// A letter and two numbers, at most.
+pub const PAIR_WIDTH: usize = START_WIDTH + 2 * LONG_WIDTH;
+
 // Puts what is said of a loss of tonnes; the answer, here and below, is the place after what was put.
 fn put_loss(out: &mut [u8], at: usize, tonnes: u64) -> usize
     ensures { λ r. ⌜ Put changeWidth (now (out .entry)) at (lossText tonnes) (now (out .exit)) r ⌝ }

@@ -10,6 +10,7 @@ use Rattle.book_print.specs.{reportText, refusalText, endText}
 use Rattle.book_print.proofs.Lengths.{refusal-few, end-few}
 use Rattle.book_listing.specs.{linesOf, lineTaken, Run, start, next, printedFor, printed, listFrom, longestBook, listingOf}
 use Rattle.book_listing.proofs.Folding.{start-none, next-counts, list-line, list-none, listing-over, listing-lines}
+use Rattle.book_listing.proofs.Lines.{lines-few}
 use Rattle.book_room.specs.{mostForByte, mostForEnd, roomForAny}
 use Rattle.book_room.proofs.Runs.{line-length, RunKept, start-kept, next-kept}
 
@@ -46,16 +47,6 @@ lines-weigh [] = omega arith
 lines-weigh (b ∷ bs) = go (eqb b 10) (linesOf bs) (lines-weigh bs)
   where
     go : (x : Bool) (lines : List (List ℕ)) → sumBy weight lines ≤ length bs + 1 → sumBy weight (cond x ([] ∷ lines) (extend b lines)) ≤ suc (length bs) + 1
-    go true lines h = omega arith
-    go false [] h = omega arith
-    go false (f ∷ fs) h = omega arith
-
-lines-few : (book : List ℕ) → length (linesOf book) ≤ length book
-unfolding linesOf extend
-lines-few [] = omega arith
-lines-few (b ∷ bs) = go (eqb b 10) (linesOf bs) (lines-few bs)
-  where
-    go : (x : Bool) (lines : List (List ℕ)) → length lines ≤ length bs → length (cond x ([] ∷ lines) (extend b lines)) ≤ suc (length bs)
     go true lines h = omega arith
     go false [] h = omega arith
     go false (f ∷ fs) h = omega arith

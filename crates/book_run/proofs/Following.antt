@@ -9,8 +9,7 @@ use Rattle.holding_look.specs.{Looked, areaAt, lookedAt}
 use Rattle.holding_look.proofs.Laws.{looked-as}
 use Rattle.step_outcome.specs.{Outcome, placedAt, placed}
 use Rattle.book_listing.specs.{lineTaken, parsedTable, ifAccepted, tableAfter, Run, next, printedFor, printed}
-use Rattle.book_find.specs.{Named, namedBy}
-use Rattle.book_find.proofs.Naming.{numbersIn}
+use Rattle.book_find.specs.{Named, numbersIn, namedBy}
 use Rattle.book_run.specs.{lineOutcome, TakesLine}
 use Rattle.book_run.proofs.Turns.{line-taken}
 

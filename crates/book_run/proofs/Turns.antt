@@ -14,8 +14,8 @@ use Rattle.step.specs.{acted, applied}
 use Rattle.table_grow.specs.{Grown, longerBy, growable, grownBy}
 use Rattle.table_grow.proofs.Fits.{longer-fits, grown-count, grown-front}
 use Rattle.book_listing.specs.{entryTaken, parsedTaken, lineTaken, parsedTable, ifAccepted}
-use Rattle.book_find.specs.{namedBy}
-use Rattle.book_find.proofs.Naming.{numbersIn, place-in-holding}
+use Rattle.book_find.specs.{numbersIn, namedBy}
+use Rattle.book_find.proofs.Naming.{place-in-holding}
 use Rattle.book_run.specs.{columnOutcome, refusalIn, parsedOutcome, lineOutcome, Fronts, Takes, TakesColumn, TakesLine}
 
 -- the table that stands is the front of the array

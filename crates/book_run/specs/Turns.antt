@@ -1,7 +1,6 @@
--- What a line comes to on the area that was looked up for it, the table that it leaves, and what the run of a book's lines comes to.
+-- What a line comes to on the area that was looked up for it, and the table that it leaves.
 -- `own` is the participant's table, `default` the cells of Schedule 6 as they are lent.
 use Rattle.laws.specs.{ℕ, _≤_, _≡_, List, length, take}
-use Rattle.text.specs.{Wrote}
 use Rattle.refusals.specs.{Refusal, Verdict}
 use Rattle.table.specs.{longestTable}
 use Rattle.line_entry.specs.{Entry, Parsed}
@@ -11,8 +10,7 @@ use Rattle.holding_look.specs.{Looked}
 use Rattle.step_outcome.specs.{Outcome, turnedBack, accepted, answered, Report}
 use Rattle.step.specs.{acted}
 use Rattle.table_grow.specs.{longerBy, growable}
-use Rattle.book_listing.specs.{parsedTable, ifAccepted, start, runFrom, printedFrom}
-use Rattle.book_run.specs.declared.Ran.{Ran}
+use Rattle.book_listing.specs.{parsedTable, ifAccepted}
 
 -- T leaves the holding
 unfoldable pub columnOutcome : ℕ → Verdict → Outcome
@@ -49,10 +47,3 @@ TakesColumn own areas line numbers count taken = Takes (columnOutcome areas (gro
 -- any line, on the area that was looked up for it
 abbrev pub TakesLine : List ℕ → List ℕ → Looked → List ℕ → List ℕ → ℕ → Outcome → Type 0
 TakesLine own default looked line numbers count taken = Takes (lineOutcome own default looked line) (parsedTable own line (entryOf line)) own numbers count taken
-
--- what the lines print is put, and the rest is that of their run
-pub record RunOf (lines : List (List ℕ)) (out after : List ℕ) (ran : Ran) : Type 0 where
-  pub wrote : Wrote out 0 (printedFrom start lines) after (ran .at)
-  pub holding : ran .holding ≡ runFrom start lines .holding
-  pub accepted : ran .accepted ≡ runFrom start lines .accepted
-  pub refused : ran .refused ≡ runFrom start lines .refused

@@ -1,12 +1,10 @@
-// Runs a book line by line, on one holding and one table, and puts its listing.
+// Runs the lines of a book, on one holding and one table, and puts what each prints.
 ghost use mathlib.Core.Path.{_≡_};
 ghost use Prim.Native.Nat.{_≤_};
 ghost use lib.ListN.{length, take};
 ghost use Rattle.table.specs.{longestTable};
-ghost use Rattle.text.specs.{Wrote};
 ghost use Rattle.line.specs.{entryOf};
-ghost use Rattle.book_listing.specs.{linesOf, listingOf, longestBook};
-ghost use Rattle.book_run.specs.{refusalIn, TakesColumn, TakesLine, RunOf};
+ghost use Rattle.book_run.specs.{refusalIn, TakesColumn, TakesLine, mayRun, mayRunFrom, RunsIf};
 use book_listing::LONGEST_BOOK;
 use holding::Found;
 use holding::Holding;
@@ -86,30 +84,63 @@ fn take_line(
     }
 }
 
-// What the run of a book's lines comes to: the place after what was put, the holding, and how many lines were accepted and refused.
-struct Ran {
-    at: usize,
-    holding: Holding,
-    accepted: u64,
-    refused: u64,
+// What a book's lines have come to: the holding, the participant's table at the front of `table`, and how many lines were accepted and refused.
+pub struct Reached {
+    pub holding: Holding,
+    pub table: [u16; LONGEST_TABLE],
+    pub count: usize,
+    pub accepted: u64,
+    pub refused: u64,
 }
 
-// Runs the lines of a book that is not too long, and puts what each prints. The numbers of the areas are kept beside them, so that no line is given the
-// holding.
-fn put_lines(book: &[u8], out: &mut [u8]) -> Ran
-    requires { ⌜ length (now book) ≤ longestBook ⌝ }
-    ensures { λ r. ⌜ RunOf (linesOf (now (book .entry))) (now (out .entry)) (now (out .exit)) r ⌝ }
+// What lines that are run come to: how many bytes were put, the place in the book of the line that comes next, and what the lines before it have come to.
+pub struct Part {
+    pub count: usize,
+    pub next: usize,
+    pub reached: Reached,
+}
+
+// Whether a book of so many bytes can have come so far: no more lines were counted than bytes were run.
+pub fn may_run(length: usize, next: usize, count: usize, accepted: u64, refused: u64) -> bool
+    ensures { λ r. ⌜ r ≡ mayRun length next count accepted refused ⌝ }
 {
+    let most = next as u64;
+    (length <= LONGEST_BOOK)
+        & (next <= LONGEST_BOOK + 1)
+        & (count <= LONGEST_TABLE)
+        & (accepted <= most)
+        & (refused <= most)
+}
+
+// Runs the lines of a book from a place on, so many at most, and puts what each prints; where the book cannot have come so far, nothing is run. The
+// numbers of the areas are kept beside them, so that no line is given the holding.
+pub fn put_lines(book: &[u8], next: usize, reached: Reached, most: usize, out: &mut [u8]) -> Part
+    ensures { λ r. ⌜ RunsIf (mayRunFrom (now (book .entry)) next reached) (now (book .entry)) next reached most (now (out .entry)) (now (out .exit)) r ⌝ }
+{
+    if !may_run(
+        book.len(),
+        next,
+        reached.count,
+        reached.accepted,
+        reached.refused,
+    ) {
+        return Part {
+            count: 0,
+            next,
+            reached,
+        };
+    }
     let default = schedules::schedule_six();
-    let mut holding = holding::empty_holding();
-    let mut numbers = [0u16; MOST_AREAS];
-    let mut table = [0u16; LONGEST_TABLE];
-    let mut count: usize = 0;
-    let mut accepted: u64 = 0;
-    let mut refused: u64 = 0;
+    let mut holding = reached.holding;
+    let mut numbers = book_find::numbers_of(holding);
+    let mut table = reached.table;
+    let mut count = reached.count;
+    let mut accepted = reached.accepted;
+    let mut refused = reached.refused;
+    let mut left = most;
     let mut at: usize = 0;
-    let mut i: usize = 0;
-    while i < book.len() {
+    let mut i = next;
+    while (i < book.len()) & (0 < left) {
         let end = text::end_of(book, i, b'\n');
         let parsed = line::parse(&book[i..end]);
         let names = book_find::find(&numbers, holding.count, parsed);
@@ -149,23 +180,18 @@ fn put_lines(book: &[u8], out: &mut [u8]) -> Ran
             holding.count = outcome.count;
         }
         i = end + 1;
+        left -= 1;
     }
-    Ran {
-        at,
+    let reached = Reached {
         holding,
+        table,
+        count,
         accepted,
         refused,
+    };
+    Part {
+        count: at,
+        next: i,
+        reached,
     }
-}
-
-// Puts the listing of any book; the answer is the place after it.
-pub fn put_listing(book: &[u8], out: &mut [u8]) -> usize
-    ensures { λ r. ⌜ Wrote (now (out .entry)) 0 (listingOf (now (book .entry))) (now (out .exit)) r ⌝ }
-{
-    if LONGEST_BOOK < book.len() {
-        let next = book_print::put_refusal(out, 0, 0, Refusal::Form);
-        return book_print::put_end(out, next, 0, 1);
-    }
-    let ran = put_lines(book, out);
-    book_print::put_end(out, ran.at, ran.accepted, ran.refused)
 }

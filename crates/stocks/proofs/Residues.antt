@@ -1,5 +1,5 @@
 -- The residue of a sub-area is the stock of the one that it holds: where it holds none, that is bare land's, whose rate is 0.
-use Rattle.laws.proofs.{ℕ, _-_, _≡_, refl, sym, ap, Bool, true, false, cond, List, leb}
+use Rattle.laws.proofs.{ℕ, _-_, _<_, _≡_, refl, sym, ap, Bool, true, false, cond, List, leb, lt-leb}
 use native.Mathlib.Nat.{add-zero, mul-zero, zero-mul}
 use Rattle.laws.specs.{sumBy}
 use Rattle.units.specs.{Tenths, noKilograms, residueOf}
@@ -31,3 +31,8 @@ module _ (own default : List ℕ) (land : Tenths) (y : ℕ) where
 pub residue-alone : (own default : List ℕ) (sub : Sub) (y : ℕ) → residueOn own default sub y ≡ oneResidueOn own default (sub .tenths) (sub .residue) y
 unfolding residueOn stock
 residue-alone own default sub y = ap kilograms (one-left own default (sub .tenths) y (sub .residue))
+
+-- of a residue that has decayed nothing is left, whatever its rate
+pub decayed : (own default : List ℕ) (sub : Sub) (y : ℕ) → sub .residue .year < y → shareAfter (y - sub .residue .year) ≡ 0 → noKilograms ≡ residueOn own default sub y
+unfolding oneResidueOn residueOf
+decayed own default sub y h e = simp (residue-alone own default sub y, lt-leb y (sub .residue .year) h, e, mul-zero)

@@ -21,6 +21,7 @@ fn trees_on<'a>(own: &'a [u16], default: &'a [u16], sub: Sub, year: u16) -> Kilo
     land.trees(rate)
 }
 
+// Nothing is looked up of a residue that has decayed, nor where there is none, which is of the year 0.
 fn residue_on<'a>(own: &'a [u16], default: &'a [u16], sub: Sub, year: u16) -> Kilograms
     ensures { λ r. ⌜ (r ≡ residueOn (now (own .entry)) (now (default .entry)) sub year) × (r .0 ≤ 4294967295 * 65535 * 255) ⌝ }
 {
@@ -29,8 +30,11 @@ fn residue_on<'a>(own: &'a [u16], default: &'a [u16], sub: Sub, year: u16) -> Ki
     if year <= residue.year {
         return Kilograms::none();
     }
-    let forest = residue.forest;
     let share = rates::share(ranges::years_from(residue.year, year));
+    if share == 0 {
+        return Kilograms::none();
+    }
+    let forest = residue.forest;
     let rate = rates::rate_six(own, default, Kind::Residue, forest, residue.age);
     land.residue(rate, share)
 }

@@ -23,9 +23,12 @@ pub fn compare(program: &str, books: u64, seed: u64) -> Result<String, String> {
     Ok(format!("{program}: {books} books listed alike, seed {seed}"))
 }
 
-/// The lines of a run of cases, some of them damaged; at times cut or grown to the greatest length of a book.
+/// How many lines `book` lists at a time.
+const PART: usize = 256;
+
+/// The lines of a run of cases, some of them damaged, often as many as parts have; at times cut or grown to the greatest length of a book.
 fn a_book(random: &mut Random) -> Vec<u8> {
-    let lines = *random.pick(&[0, 3, 30, 300, 300]);
+    let lines = *random.pick(&[0, 3, 30, 300, PART - 1, PART, PART + 1, 2 * PART, 2 * PART + 1]);
     let mut cases = Cases::of_one_book(random.next(), lines);
     let mut text = Vec::new();
     for _ in 0..lines {
@@ -36,7 +39,7 @@ fn a_book(random: &mut Random) -> Vec<u8> {
     match random.below(20) {
         0 => text.resize(BOOK_BYTES, b'\n'),
         1 => text.resize(BOOK_BYTES + 1, b'\n'),
-        2 => drop(text.pop()),
+        2..=5 => drop(text.pop()),
         _ => {}
     }
     text

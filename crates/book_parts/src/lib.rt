@@ -1,0 +1,84 @@
+// The listing of a book, a part at a time or whole.
+ghost use mathlib.Core.Path.{_≡_};
+ghost use Prim.Native.Nat.{_+_};
+ghost use Rattle.text.specs.{Wrote};
+ghost use Rattle.statement_field.specs.{Put};
+ghost use Rattle.book_print.specs.{refusalWidth, pairWidth};
+ghost use Rattle.book_listing.specs.{listingOf, refusedBook};
+ghost use Rattle.book_parts.specs.{nothingReached, partOf, Whole, ComesTo};
+use book_listing::LONGEST_BOOK;
+use book_run::Part;
+use book_run::Reached;
+use refusals::Refusal;
+use table::LONGEST_TABLE;
+
+// How many lines a part lists at most, and room for what they print and for E.
+pub const PART_LINES: usize = 256;
+
+pub const PART_ROOM: usize = PART_LINES * book_print::REPORT_WIDTH + book_print::PAIR_WIDTH;
+
+// Before the first line.
+pub fn nothing_reached() -> Reached
+    ensures { λ r. ⌜ r ≡ nothingReached ⌝ }
+{
+    let holding = holding::empty_holding();
+    Reached {
+        holding,
+        table: [0u16; LONGEST_TABLE],
+        count: 0,
+        accepted: 0,
+        refused: 0,
+    }
+}
+
+// Puts what is printed for a book that is not run.
+fn put_refused(out: &mut [u8]) -> usize
+    ensures { λ r. ⌜ Put (refusalWidth + pairWidth) (now (out .entry)) 0 refusedBook (now (out .exit)) r ⌝ }
+{
+    let next = book_print::put_refusal(out, 0, 0, Refusal::Form);
+    book_print::put_end(out, next, 0, 1)
+}
+
+// Puts the next part of a book's listing, from a place on, where the lines before it have come to `reached`.
+pub fn put_part(book: &[u8], next: usize, reached: Reached, out: &mut [u8; PART_ROOM]) -> Part
+    ensures { λ r. ⌜ Whole (partOf (now (book .entry)) next reached) (now (out .entry)) (now (out .exit)) (r .count) ⌝ }
+    ensures { λ r. ⌜ ComesTo (now (book .entry)) next reached r ⌝ }
+{
+    if book_run::may_run(
+        book.len(),
+        next,
+        reached.count,
+        reached.accepted,
+        reached.refused,
+    ) {
+        let part = book_run::put_lines(book, next, reached, PART_LINES, out);
+        if part.next < book.len() {
+            return part;
+        }
+        let last = part.reached;
+        let count = book_print::put_end(out, part.count, last.accepted, last.refused);
+        return Part {
+            count,
+            next: part.next,
+            reached: last,
+        };
+    }
+    let count = put_refused(out);
+    Part {
+        count,
+        next: book.len(),
+        reached,
+    }
+}
+
+// Puts the listing of any book; the answer is the place after it.
+pub fn put_listing(book: &[u8], out: &mut [u8]) -> usize
+    ensures { λ r. ⌜ Wrote (now (out .entry)) 0 (listingOf (now (book .entry))) (now (out .exit)) r ⌝ }
+{
+    if LONGEST_BOOK < book.len() {
+        return put_refused(out);
+    }
+    let all = book_run::put_lines(book, 0, nothing_reached(), LONGEST_BOOK, out);
+    let last = all.reached;
+    book_print::put_end(out, all.count, last.accepted, last.refused)
+}

@@ -1,0 +1,81 @@
+-- Where a book can have come to, and what is left where no line is run any more.
+use Rattle.laws.proofs.{ℕ, _+_, _≤_, _<_, _≡_, sym, ap, subst, _∙_, Bool, true, false, _&&_, List, [], _⊎_, inl, inr, ⊎-elim, arith, ltb, leb-true, ltb-true, ltb-false, le-leb, lt-ltb, length, take, drop, take-all, drop-of-length-le}
+use Rattle.laws.proofs.Lists.{and-left, and-right}
+use Rattle.laws.proofs.Order.{below-or-not}
+use Rattle.laws.proofs.Tests.{AllTrue, all-true, true-all}
+use Rattle.table.specs.{longestTable}
+use Rattle.book_listing.specs.{longestBook}
+use Rattle.book_listing.proofs.Lines.{lines-none}
+use Rattle.book_run.specs.{Reached, Part, linesFrom, mayRun, mayRunFrom, RunOf, RunsIf}
+
+module _ (size next count accepted refused : ℕ) where
+  pub record Bounds : Type 0 where
+    pub book : size ≤ longestBook
+    pub place : next ≤ longestBook + 1
+    pub table : count ≤ longestTable
+    pub some : accepted ≤ next
+    pub others : refused ≤ next
+
+  pub bounds : mayRun size next count accepted refused ≡ true → Bounds
+  unfolding mayRun AllTrue
+  bounds e =
+      let all = all-true _ e in
+      record {
+        book = leb-true _ _ (all .0);
+        place = leb-true _ _ (all .1 .0);
+        table = leb-true _ _ (all .1 .1 .0);
+        some = leb-true _ _ (all .1 .1 .1 .0);
+        others = leb-true _ _ (all .1 .1 .1 .1 .0);
+      }
+
+  pub may : Bounds → mayRun size next count accepted refused ≡ true
+  unfolding mayRun AllTrue
+  may b =
+      true-all _
+      (le-leb _ _ (b .book), (le-leb _ _ (b .place), (le-leb _ _ (b .table), (le-leb _ _ (b .some), (le-leb _ _ (b .others), tt)))))
+
+-- ---- the loop's two tests
+
+module _ (book : List ℕ) (i left : ℕ) where
+  pub goes-on : (ltb i (length book) && ltb 0 left) ≡ true → (i < length book) × (1 ≤ left)
+  goes-on e =
+      let inside = ltb-true i (length book) (and-left (ltb i (length book)) (ltb 0 left) e) in
+      let some = ltb-true 0 left (and-right (ltb i (length book)) (ltb 0 left) e) in
+      (inside, omega arith)
+
+  -- no line is run any more
+  pub record Stopped : Type 0 where
+    pub none : take left (linesFrom book i) ≡ []
+    pub rest : linesFrom book i ≡ drop left (linesFrom book i)
+    pub reason : (length book ≤ i) ⊎ (left ≡ 0)
+
+  over : length book ≤ i → Stopped
+  over h =
+      let none = lines-none book i h in
+      record { none = ap (take left) none ∙ take-all left [] (omega arith); rest = none ∙ sym (drop-of-length-le [] {i = left} (omega arith)) ∙ ap (drop left) (sym none); reason = inl h }
+
+  spent : left ≡ 0 → Stopped
+  spent h = record { none = ap (λ (n : ℕ). take n (linesFrom book i)) h; rest = ap (λ (n : ℕ). drop n (linesFrom book i)) (sym h); reason = inr h }
+
+  pub stopped : (ltb i (length book) && ltb 0 left) ≡ false → Stopped
+  stopped e =
+      ⊎-elim
+      (λ inside. spent (omega (arith, ltb-false 0 left (ap (λ (b : Bool). b && ltb 0 left) (sym (lt-ltb i (length book) inside)) ∙ e))))
+      over
+      (below-or-not i (length book))
+
+-- ---- by whether the book can have come so far
+
+module _ (book : List ℕ) (next : ℕ) (reached : Reached) (most : ℕ) (out after : List ℕ) (part : Part) where
+  abbrev RunsBy : Bool → Type 0
+  RunsBy may = RunsIf may book next reached most out after part
+
+  pub runs : mayRunFrom book next reached ≡ true → RunOf book next reached most out after part → RunsBy (mayRunFrom book next reached)
+  runs may ran = subst RunsBy (sym may) ran
+
+  pub runs-not : mayRunFrom book next reached ≡ false → after ≡ out → part ≡ record { count = 0; next = next; reached = reached }
+      → RunsBy (mayRunFrom book next reached)
+  runs-not may kept nothing = subst RunsBy (sym may) (kept, nothing)
+
+  pub run-of : mayRunFrom book next reached ≡ true → RunsBy (mayRunFrom book next reached) → RunOf book next reached most out after part
+  run-of may by = subst RunsBy may by

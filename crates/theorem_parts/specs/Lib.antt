@@ -1,0 +1,2 @@
+pub mod Parts
+pub use Parts.{InParts, joinedParts}

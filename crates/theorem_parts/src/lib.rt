@@ -1,0 +1,1 @@
+// The parts of a book's listing, joined. No code.
