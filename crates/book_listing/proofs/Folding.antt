@@ -1,9 +1,8 @@
 -- One turn of the fold: a line prints its own, one more is accepted or refused, and the lines behind it follow.
 use Rattle.laws.proofs.{ℕ, suc, _+_, _-_, _≤_, _<_, _≡_, refl, sym, ap, _∙_, List, [], _∷_, _++_, append-assoc, arith, length, take, drop, lt-ltb, le-ltb}
 use Rattle.text.specs.{lineEnd, widthTo}
-use Rattle.refusals.specs.{Verdict, Refusal}
-use Rattle.book_print.specs.{refusalText, endText}
-use Rattle.book_listing.specs.{linesOf, lineTaken, ifAccepted, Run, start, next, printed, runFrom, printedFrom, closing, listFrom, longestBook, listingOf}
+use Rattle.refusals.specs.{Verdict}
+use Rattle.book_listing.specs.{linesOf, lineTaken, ifAccepted, Run, start, next, printed, runFrom, printedFrom, closing, listFrom, longestBook, refusedBook, listingOf}
 use Rattle.book_listing.proofs.Lines.{lines-at}
 
 pub start-none : start .accepted + start .refused ≡ 0
@@ -28,20 +27,22 @@ pub list-none : (run : Run) → listFrom run [] ≡ closing run
 unfolding listFrom printedFrom runFrom
 list-none run = refl
 
--- the lines from a place on, so many at most
-module _ (run : Run) (book : List ℕ) (i : ℕ) where
-  -- a line, and those that follow
-  module _ (after : Run) (end most : ℕ) (h : i < length book) (m : 0 < most) (e : end ≡ i + widthTo lineEnd (drop i book)) (q : after ≡ next run (take (end - i) (drop i book))) where
-    -- the first line, in front of one fewer
-    first : linesOf (drop i book) ≡ take (end - i) (drop i book) ∷ linesOf (drop (end + 1) book)
-    first = lines-at book i end h e
+-- the lines from a place on, so many at most: a line, and those that follow
+module _ (book : List ℕ) (i end most : ℕ) (h : i < length book) (m : 0 < most) (e : end ≡ i + widthTo lineEnd (drop i book)) where
+  -- the first line, in front of one fewer
+  first : linesOf (drop i book) ≡ take (end - i) (drop i book) ∷ linesOf (drop (end + 1) book)
+  first = lines-at book i end h e
 
-    some : suc (most - 1) ≡ most
-    some = omega arith
+  some : suc (most - 1) ≡ most
+  some = omega arith
 
-    taken : take (end - i) (drop i book) ∷ take (most - 1) (linesOf (drop (end + 1) book)) ≡ take most (linesOf (drop i book))
-    taken = ap (λ (n : ℕ). take n (take (end - i) (drop i book) ∷ linesOf (drop (end + 1) book))) some ∙ ap (take most) (sym first)
+  taken : take (end - i) (drop i book) ∷ take (most - 1) (linesOf (drop (end + 1) book)) ≡ take most (linesOf (drop i book))
+  taken = ap (λ (n : ℕ). take n (take (end - i) (drop i book) ∷ linesOf (drop (end + 1) book))) some ∙ ap (take most) (sym first)
 
+  pub left-line : drop (most - 1) (linesOf (drop (end + 1) book)) ≡ drop most (linesOf (drop i book))
+  left-line = ap (λ (n : ℕ). drop n (take (end - i) (drop i book) ∷ linesOf (drop (end + 1) book))) some ∙ ap (drop most) (sym first)
+
+  module _ (run after : Run) (q : after ≡ next run (take (end - i) (drop i book))) where
     pub from-line : printed run (take (end - i) (drop i book)) ++ printedFrom after (take (most - 1) (linesOf (drop (end + 1) book)))
         ≡ printedFrom run (take most (linesOf (drop i book)))
     unfolding printedFrom
@@ -53,20 +54,17 @@ module _ (run : Run) (book : List ℕ) (i : ℕ) where
     unfolding runFrom
     run-line = ap (λ (r : Run). runFrom r (take (most - 1) (linesOf (drop (end + 1) book)))) q ∙ ap (runFrom run) taken
 
-    pub left-line : drop (most - 1) (linesOf (drop (end + 1) book)) ≡ drop most (linesOf (drop i book))
-    left-line = ap (λ (n : ℕ). drop n (take (end - i) (drop i book) ∷ linesOf (drop (end + 1) book))) some ∙ ap (drop most) (sym first)
+-- where no line is left
+module _ (run : Run) (lines : List (List ℕ)) (h : lines ≡ []) where
+  pub from-none : [] ≡ printedFrom run lines
+  unfolding printedFrom
+  from-none = sym (ap (printedFrom run) h)
 
-  -- after the last
-  module _ (most : ℕ) (h : take most (linesOf (drop i book)) ≡ []) where
-    pub from-none : [] ≡ printedFrom run (take most (linesOf (drop i book)))
-    unfolding printedFrom
-    from-none = sym (ap (printedFrom run) h)
+  pub run-none : run ≡ runFrom run lines
+  unfolding runFrom
+  run-none = sym (ap (runFrom run) h)
 
-    pub run-none : run ≡ runFrom run (take most (linesOf (drop i book)))
-    unfolding runFrom
-    run-none = sym (ap (runFrom run) h)
-
-pub listing-over : (book : List ℕ) → longestBook < length book → refusalText 0 Refusal.Form ++ endText 0 1 ≡ listingOf book
+pub listing-over : (book : List ℕ) → longestBook < length book → refusedBook ≡ listingOf book
 unfolding listingOf
 listing-over book h = simp (lt-ltb _ _ h)
 

@@ -8,7 +8,7 @@ use Rattle.refusals.specs.{Verdict, Refusal}
 use Rattle.step_outcome.specs.{Outcome}
 use Rattle.book_print.specs.{reportText, refusalText, endText}
 use Rattle.book_print.proofs.Lengths.{refusal-few, end-few}
-use Rattle.book_listing.specs.{linesOf, lineTaken, Run, start, next, printedFor, printed, listFrom, longestBook, listingOf}
+use Rattle.book_listing.specs.{linesOf, lineTaken, Run, start, next, printedFor, printed, listFrom, longestBook, refusedBook, listingOf}
 use Rattle.book_listing.proofs.Folding.{start-none, next-counts, list-line, list-none, listing-over, listing-lines}
 use Rattle.book_listing.proofs.Lines.{lines-few}
 use Rattle.book_room.specs.{mostForByte, mostForEnd, roomForAny}
@@ -61,7 +61,7 @@ listing-length book h =
       lines-weigh book,
     )
 
-over-length : length (refusalText 0 Refusal.Form ++ endText 0 1) ≤ 25
+over-length : length refusedBook ≤ 25
 over-length =
     omega (
       arith,

@@ -179,10 +179,10 @@ loop-again c =
       wrote-length (put .wrote) ∙ l .loop .inv .3,
       λ o p w.
           l .loop .inv .4 o p
-          (wrote-as (from-line (runAt l) book (l .loop .i) _ (e .end-of .result) (l .loop .left) inside some (e .end-of .ensures) runs)
+          (wrote-as (from-line book (l .loop .i) (e .end-of .result) (l .loop .left) inside some (e .end-of .ensures) (runAt l) _ runs)
           (wrote-then (wrote-as prints (put .wrote)) w)),
-      run-line (runAt l) book (l .loop .i) _ (e .end-of .result) (l .loop .left) inside some (e .end-of .ensures) runs ∙ l .loop .inv .5,
-      left-line (runAt l) book (l .loop .i) _ (e .end-of .result) (l .loop .left) inside some (e .end-of .ensures) runs ∙ l .loop .inv .6,
+      run-line book (l .loop .i) (e .end-of .result) (l .loop .left) inside some (e .end-of .ensures) (runAt l) _ runs ∙ l .loop .inv .5,
+      left-line book (l .loop .i) (e .end-of .result) (l .loop .left) inside some (e .end-of .ensures) ∙ l .loop .inv .6,
       numbered c,
       omega (arith, put .wrote .place),
       omega (arith, put .wrote .place, put .few, l .loop .inv .9, some),
@@ -210,8 +210,8 @@ returns-2 c =
     let stop = stopped (bookOf l) (l .loop .i) (l .loop .left) (c .loop-test .left) in
     let none = wrote-none (l .loop .out) (l .loop .at) (omega (arith, l .loop .inv .3, bounded-out (startOf l))) (l .loop .inv .8) in
     let ran : RunOf (bookOf l) (a .next) (a .reached) (a .most) (a .out .now) (l .loop .out) (partAt l) = record {
-      wrote = l .loop .inv .4 _ _ (wrote-as (from-none (runAt l) _ (l .loop .i) (l .loop .left) (stop .none)) none);
-      run = run-none (runAt l) _ (l .loop .i) (l .loop .left) (stop .none) ∙ l .loop .inv .5;
+      wrote = l .loop .inv .4 _ _ (wrote-as (from-none (runAt l) _ (stop .none)) none);
+      run = run-none (runAt l) _ (stop .none) ∙ l .loop .inv .5;
       left = stop .rest ∙ l .loop .inv .6;
       may = may _ _ _ _ _ (l .loop .inv .0);
       on = λ many inside. ⊎-elim (λ over. omega (arith, over, inside)) (λ spent. omega (arith, l .loop .inv .10, many, spent)) (stop .reason);
