@@ -17,7 +17,7 @@ fn room_for_part() -> [u8; PART_ROOM] {
 // Writes a part of the listing of a book after the other, until none of its lines is left.
 fn print_listing(book: &[u8]) {
     let mut out = room_for_part();
-    let mut part = book_parts::put_part(book, 0, book_parts::nothing_reached(), &mut out);
+    let mut part = book_parts::put_part(book, 0, book_reached::nothing_reached(), &mut out);
     while part.next < book.len() {
         io::write_all(STDOUT_FILENO, &out[..part.count]);
         part = book_parts::put_part(book, part.next, part.reached, &mut out);

@@ -11,10 +11,13 @@ use Rattle.table_grow.specs.{growable, longerBy}
 use Rattle.book_print.specs.{reportText, refusalText, endText}
 use Rattle.book_listing.specs.Lines.{linesOf}
 
--- what an entry of a line comes to, on a holding and a table; "T .. extends the table", and the holding stays
+-- what an accepted T line comes to, where so many areas stand: "T .. extends the table", and the holding stays
+abbrev pub columnTaken : ℕ → Outcome
+columnTaken areas = accepted Report.Nothing Found.Nowhere areas emptyArea
+
+-- what an entry of a line comes to, on a holding and a table
 unfoldable pub entryTaken : List ℕ → Holding → List ℕ → Entry → Outcome
-entryTaken own holding line (Entry.Column column) =
-    answered (growable own (holding .count) line) (accepted Report.Nothing Found.Nowhere (holding .count) emptyArea)
+entryTaken own holding line (Entry.Column column) = answered (growable own (holding .count) line) (columnTaken (holding .count))
 entryTaken own holding line (Entry.On on) = applied own schedule6 holding on
 
 -- "A line that cannot be read as an entry is refused before the holding is looked at."

@@ -8,9 +8,10 @@ use Rattle.book_print.specs.{reportWidth, pairWidth}
 use Rattle.book_listing.specs.{linesOf, Run, start, runFrom, printedFrom, closing, listFrom, longestBook, refusedBook, listingOf}
 use Rattle.book_listing.proofs.Lines.{lines-at, lines-none, lines-few}
 use Rattle.book_listing.proofs.Folding.{listing-lines}
-use Rattle.book_run.specs.{Reached, Part, runOf, linesFrom, mayRunFrom, RunOf}
-use Rattle.book_run.proofs.Runs.{may}
-use Rattle.book_parts.specs.{nothingReached, partLines, closingAt, partFrom, partOf, ComesTo, Whole}
+use Rattle.book_reached.specs.{Reached, runOf, nothingReached, mayRunFrom}
+use Rattle.book_reached.proofs.Bounds.{may}
+use Rattle.book_run.specs.{Part, linesFrom, RunOf}
+use Rattle.book_parts.specs.{partLines, closingAt, partFrom, partOf, ComesTo, Whole}
 
 -- ---- a part put
 

@@ -1,14 +1,9 @@
 -- A listing in parts: what the next lines print, and E behind the last line. A part says where the next begins, and what the lines before it have come to.
-use Rattle.laws.specs.{ℕ, _≤_, _≡_, true, cond, List, [], _∷_, _++_, length, take, drop, replicate}
+use Rattle.laws.specs.{ℕ, _≤_, _≡_, true, cond, List, [], _∷_, _++_, length, take, drop}
 use Prim.Native.Nat.{_<_}
-use Rattle.table.specs.{longestTable}
-use Rattle.holding.specs.{emptyHolding}
 use Rattle.book_listing.specs.{Run, runFrom, printedFrom, closing, refusedBook}
-use Rattle.book_run.specs.{Reached, Part, runOf, linesFrom, mayRunFrom}
-
--- before the first line
-abbrev pub nothingReached : Reached
-nothingReached = record { holding = emptyHolding; table = replicate longestTable 0; count = 0; accepted = 0; refused = 0 }
+use Rattle.book_reached.specs.{Reached, runOf, mayRunFrom}
+use Rattle.book_run.specs.{Part, linesFrom}
 
 -- how many lines a part lists at most
 abbrev pub partLines : ℕ

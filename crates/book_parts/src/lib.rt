@@ -5,31 +5,16 @@ ghost use Rattle.text.specs.{Wrote};
 ghost use Rattle.statement_field.specs.{Put};
 ghost use Rattle.book_print.specs.{refusalWidth, pairWidth};
 ghost use Rattle.book_listing.specs.{listingOf, refusedBook};
-ghost use Rattle.book_parts.specs.{nothingReached, partOf, Whole, ComesTo};
+ghost use Rattle.book_parts.specs.{partOf, Whole, ComesTo};
 use book_listing::LONGEST_BOOK;
+use book_reached::Reached;
 use book_run::Part;
-use book_run::Reached;
 use refusals::Refusal;
-use table::LONGEST_TABLE;
 
 // How many lines a part lists at most, and room for what they print and for E.
 pub const PART_LINES: usize = 256;
 
 pub const PART_ROOM: usize = PART_LINES * book_print::REPORT_WIDTH + book_print::PAIR_WIDTH;
-
-// Before the first line.
-pub fn nothing_reached() -> Reached
-    ensures { λ r. ⌜ r ≡ nothingReached ⌝ }
-{
-    let holding = holding::empty_holding();
-    Reached {
-        holding,
-        table: [0u16; LONGEST_TABLE],
-        count: 0,
-        accepted: 0,
-        refused: 0,
-    }
-}
 
 // Puts what is printed for a book that is not run.
 fn put_refused(out: &mut [u8]) -> usize
@@ -44,7 +29,7 @@ pub fn put_part(book: &[u8], next: usize, reached: Reached, out: &mut [u8; PART_
     ensures { λ r. ⌜ Whole (partOf (now (book .entry)) next reached) (now (out .entry)) (now (out .exit)) (r .count) ⌝ }
     ensures { λ r. ⌜ ComesTo (now (book .entry)) next reached r ⌝ }
 {
-    if book_run::may_run(
+    if book_reached::may_run(
         book.len(),
         next,
         reached.count,
@@ -78,7 +63,7 @@ pub fn put_listing(book: &[u8], out: &mut [u8]) -> usize
     if LONGEST_BOOK < book.len() {
         return put_refused(out);
     }
-    let all = book_run::put_lines(book, 0, nothing_reached(), LONGEST_BOOK, out);
+    let all = book_run::put_lines(book, 0, book_reached::nothing_reached(), LONGEST_BOOK, out);
     let last = all.reached;
     book_print::put_end(out, all.count, last.accepted, last.refused)
 }

@@ -7,14 +7,15 @@ use Rattle.table.specs.{isTable, longestTable}
 use Rattle.table_extend.specs.{begun}
 use Rattle.line_entry.specs.{AreaAct, Entry, Parsed}
 use Rattle.line.specs.{entryOf}
-use Rattle.holding.specs.{Holding, emptyArea, Found}
-use Rattle.step_outcome.specs.{Outcome, accepted, answered, placed, Report}
+use Rattle.holding.specs.{Holding}
+use Rattle.step_outcome.specs.{Outcome, answered, placed}
+use Rattle.step_outcome.proofs.Laws.{answered-clear}
 use Rattle.step.specs.{applied}
 use Rattle.step.proofs.Entered.{step-is}
 use Rattle.table_grow.specs.{lineColumn, lineCells, longerBy}
 use Rattle.table_grow.proofs.Fits.{grown-extensible}
 use Rattle.book_print.specs.{reportText}
-use Rattle.book_listing.specs.{entryTaken, parsedTaken, lineTaken, entryTable, parsedTable, ifAccepted, tableAfter, Run, start, next}
+use Rattle.book_listing.specs.{columnTaken, entryTaken, parsedTaken, lineTaken, entryTable, parsedTable, ifAccepted, tableAfter, Run, start, next}
 use Rattle.theorem_keeping.specs.{Kept}
 use Rattle.theorem_keeping.proofs.Areas.{kept-areas}
 use Rattle.theorem_keeping.proofs.Keeping.{step-keeps, empty-kept}
@@ -26,7 +27,7 @@ module _ (own : List ℕ) (table : isTable own ≡ true) (holding : Holding) (ke
   applied-keeps : (on : AreaAct) → Kept (placed holding (applied own schedule6 holding on))
   applied-keeps on = subst (λ (outcome : Outcome). Kept (placed holding outcome)) (sym (step-is own holding on table)) (step-keeps own holding on kept)
 
-  column-leaves : (v : Verdict) → placed holding (answered v (accepted Report.Nothing Found.Nowhere (holding .count) emptyArea)) ≡ holding
+  column-leaves : (v : Verdict) → placed holding (answered v (columnTaken (holding .count))) ≡ holding
   unfolding answered placed
   column-leaves Verdict.Accepted = refl
   column-leaves (Verdict.Refused r) = refl
@@ -46,15 +47,10 @@ module _ (own : List ℕ) (table : isTable own ≡ true) (holding : Holding) (ke
   table-or Verdict.Accepted new f = f refl
   table-or (Verdict.Refused r) new f = table
 
-  answered-clear : (v : Verdict) (outcome : Outcome) → answered v outcome .verdict ≡ Verdict.Accepted → v ≡ Verdict.Accepted
-  unfolding answered
-  answered-clear Verdict.Accepted outcome e = refl
-  answered-clear (Verdict.Refused r) outcome e = e
-
   entry-table : (entry : Entry) → entryTaken own holding line entry .verdict ≡ Verdict.Accepted → isTable (entryTable own line entry) ≡ true
   unfolding entryTaken longerBy
   entry-table (Entry.Column column) e =
-      extended-table (begun own) (lineColumn line) (lineCells line) longestTable (grown-extensible own (holding .count) line (answered-clear _ _ e) .1)
+      extended-table (begun own) (lineColumn line) (lineCells line) longestTable (grown-extensible own (holding .count) line (answered-clear _ _ e .0) .1)
   entry-table (Entry.On on) e = table
 
   parsed-table : (p : Parsed) → parsedTaken own holding line p .verdict ≡ Verdict.Accepted → isTable (parsedTable own line p) ≡ true
@@ -62,7 +58,7 @@ module _ (own : List ℕ) (table : isTable own ≡ true) (holding : Holding) (ke
   parsed-table (Parsed.Taken entry) e = entry-table entry e
   parsed-table (Parsed.Refused r) e = table
 
-  column-silent : (v : Verdict) → length (reportText (answered v (accepted Report.Nothing Found.Nowhere (holding .count) emptyArea) .report)) ≤ 0
+  column-silent : (v : Verdict) → length (reportText (answered v (columnTaken (holding .count)) .report)) ≤ 0
   unfolding answered reportText
   column-silent Verdict.Accepted = omega arith
   column-silent (Verdict.Refused r) = omega arith

@@ -8,10 +8,10 @@ use Rattle.holding.specs.{Area, Holding, Found}
 use Rattle.holding_look.specs.{Looked, areaAt, lookedAt}
 use Rattle.holding_look.proofs.Laws.{looked-as}
 use Rattle.step_outcome.specs.{Outcome, placedAt, placed}
-use Rattle.book_listing.specs.{lineTaken, parsedTable, ifAccepted, tableAfter, Run, next, printedFor, printed}
+use Rattle.book_listing.specs.{parsedTaken, lineTaken, parsedTable, ifAccepted, tableAfter, Run, next, printedFor, printed}
 use Rattle.book_find.specs.{Named, numbersIn, namedBy}
-use Rattle.book_run.specs.{lineOutcome, TakesLine}
-use Rattle.book_run.proofs.Turns.{line-taken}
+use Rattle.book_turn.specs.{parsedOutcome}
+use Rattle.book_turn.proofs.Left.{Fronts, turn-taken}
 
 -- a step leaves as many places for areas as there were
 pub placed-long : (holding : Holding) (outcome : Outcome) → length (placed holding outcome .areas) ≡ length (holding .areas)
@@ -27,38 +27,40 @@ one-or-none Verdict.Accepted a r = omega arith
 one-or-none (Verdict.Refused refusal) a r = omega arith
 
 -- a line taken on the area that was looked up, with the run's own table and the cells of Schedule 6
-module _ (run : Run) (areaNumbers : List ℕ) (i : areaNumbers ≡ numbersIn (run .holding .areas)) (line default : List ℕ) (parsed : Parsed) (names : Named) (found : Found) (area : Area) (numbers : List ℕ) (count : ℕ) (outcome : Outcome)
-    (t : TakesLine (run .own) default (record { number = names .number; count = run .holding .count; found = found; area = area }) line numbers count outcome)
+module _ (run : Run) (areaNumbers : List ℕ) (i : areaNumbers ≡ numbersIn (run .holding .areas)) (line default : List ℕ) (parsed : Parsed) (names : Named) (found : Found) (area : Area) (outcome : Outcome)
+    (t : outcome ≡ parsedOutcome (run .own) default (record { number = names .number; count = run .holding .count; found = found; area = area }) line parsed)
     (p : parsed ≡ entryOf line) (n : names ≡ namedBy (take (run .holding .count) areaNumbers) parsed) (f : found ≡ names .found) (a : area ≡ areaAt (run .holding) found)
     (d : default ≡ schedule6) where
   abbrev lookedAs : Named → Looked
   lookedAs x = lookedAt (run .holding) (x .number) (x .found)
 
-  taken-is : lineOutcome (run .own) default (record { number = names .number; count = run .holding .count; found = found; area = area }) line
-      ≡ lineTaken (run .own) (run .holding) line
-  taken-is =
-      ap (λ (x : Looked). lineOutcome (run .own) default x line) (looked-as (run .holding) (names .number) found (names .found) area f a)
-      ∙ ap (λ (x : Named). lineOutcome (run .own) default (lookedAs x) line) (n ∙ ap (namedBy (take (run .holding .count) areaNumbers)) p)
-      ∙ ap (λ (l : List ℕ). lineOutcome (run .own) l (lookedAs (namedBy (take (run .holding .count) areaNumbers) (entryOf line))) line) d
-      ∙ line-taken (run .own) (run .holding) areaNumbers i line
-
   outcome-is : outcome ≡ lineTaken (run .own) (run .holding) line
-  outcome-is = t .comes ∙ taken-is
+  unfolding lineTaken
+  outcome-is =
+      t
+      ∙ ap (λ (x : Looked). parsedOutcome (run .own) default x line parsed) (looked-as (run .holding) (names .number) found (names .found) area f a)
+      ∙ ap (λ (x : Named). parsedOutcome (run .own) default (lookedAs x) line parsed) n
+      ∙ ap (λ (l : List ℕ). parsedOutcome (run .own) l (lookedAs (namedBy (take (run .holding .count) areaNumbers) parsed)) line parsed) d
+      ∙ turn-taken (run .own) (run .holding) areaNumbers i line parsed
+      ∙ ap (parsedTaken (run .own) (run .holding) line) p
 
   pub turn-prints : printedFor (run .accepted + run .refused + 1) (outcome .verdict) outcome ≡ printed run line
   unfolding printed
   turn-prints = ap (λ (x : Outcome). printedFor (run .accepted + run .refused + 1) (x .verdict) x) outcome-is
 
-  pub turn-runs : (holding : Holding) (accepted refused taken : ℕ)
+  pub turn-runs : (numbers : List ℕ) (count : ℕ) → Fronts numbers count (ifAccepted (outcome .verdict) (parsedTable (run .own) line parsed) (run .own))
+      → (holding : Holding) (accepted refused taken : ℕ)
       → holding ≡ placed (run .holding) outcome → taken ≡ ifAccepted (outcome .verdict) 1 0
       → accepted ≡ run .accepted + taken → refused ≡ run .refused + (1 - taken)
       → record { own = take count numbers; holding = holding; accepted = accepted; refused = refused } ≡ next run line
   unfolding next tableAfter
-  turn-runs holding accepted refused taken h k a r =
+  turn-runs numbers count leaves holding accepted refused taken h k a r =
       let v = outcome .verdict in
       let w : v ≡ lineTaken (run .own) (run .holding) line .verdict = ap (λ (x : Outcome). x .verdict) outcome-is in
       let grown : take count numbers ≡ tableAfter (run .own) (run .holding) line =
-      t .leaves .front ∙ ap (λ (x : Outcome). ifAccepted (x .verdict) (parsedTable (run .own) line (entryOf line)) (run .own)) taken-is in
+      leaves .front
+      ∙ ap (λ (x : Verdict). ifAccepted x (parsedTable (run .own) line parsed) (run .own)) w
+      ∙ ap (λ (x : Parsed). ifAccepted (lineTaken (run .own) (run .holding) line .verdict) (parsedTable (run .own) line x) (run .own)) p in
       let stands : holding ≡ placed (run .holding) (lineTaken (run .own) (run .holding) line) = h ∙ ap (placed (run .holding)) outcome-is in
       let counts = one-or-none v (run .accepted) (run .refused) in
       let more : accepted ≡ ifAccepted (lineTaken (run .own) (run .holding) line .verdict) (run .accepted + 1) (run .accepted) =

@@ -1,38 +1,10 @@
--- Where a book can have come to, and what is left where no line is run any more.
-use Rattle.laws.proofs.{ℕ, _+_, _≤_, _<_, _≡_, sym, ap, subst, _∙_, Bool, true, false, _&&_, List, [], _⊎_, inl, inr, ⊎-elim, arith, ltb, leb-true, ltb-true, ltb-false, le-leb, lt-ltb, length, take, drop, take-all, drop-of-length-le}
+-- What is left where no line is run any more, and what is run by whether the book can have come so far.
+use Rattle.laws.proofs.{ℕ, _≤_, _<_, _≡_, sym, ap, subst, _∙_, Bool, true, false, _&&_, List, [], _⊎_, inl, inr, ⊎-elim, arith, ltb, ltb-true, ltb-false, lt-ltb, length, take, drop, take-all, drop-of-length-le}
 use Rattle.laws.proofs.Lists.{and-left, and-right}
 use Rattle.laws.proofs.Order.{below-or-not}
-use Rattle.laws.proofs.Tests.{AllTrue, all-true, true-all}
-use Rattle.table.specs.{longestTable}
-use Rattle.book_listing.specs.{longestBook}
 use Rattle.book_listing.proofs.Lines.{lines-none}
-use Rattle.book_run.specs.{Reached, Part, linesFrom, mayRun, mayRunFrom, RunOf, RunsIf}
-
-module _ (size next count accepted refused : ℕ) where
-  pub record Bounds : Type 0 where
-    pub book : size ≤ longestBook
-    pub place : next ≤ longestBook + 1
-    pub table : count ≤ longestTable
-    pub some : accepted ≤ next
-    pub others : refused ≤ next
-
-  pub bounds : mayRun size next count accepted refused ≡ true → Bounds
-  unfolding mayRun AllTrue
-  bounds e =
-      let all = all-true _ e in
-      record {
-        book = leb-true _ _ (all .0);
-        place = leb-true _ _ (all .1 .0);
-        table = leb-true _ _ (all .1 .1 .0);
-        some = leb-true _ _ (all .1 .1 .1 .0);
-        others = leb-true _ _ (all .1 .1 .1 .1 .0);
-      }
-
-  pub may : Bounds → mayRun size next count accepted refused ≡ true
-  unfolding mayRun AllTrue
-  may b =
-      true-all _
-      (le-leb _ _ (b .book), (le-leb _ _ (b .place), (le-leb _ _ (b .table), (le-leb _ _ (b .some), (le-leb _ _ (b .others), tt)))))
+use Rattle.book_reached.specs.{Reached, mayRunFrom}
+use Rattle.book_run.specs.{Part, linesFrom, RunOf, RunsIf}
 
 -- ---- the loop's two tests
 

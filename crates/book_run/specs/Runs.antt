@@ -1,34 +1,15 @@
 -- Lines of a book run from a place on, so many at most, where the lines before have come to what is handed over.
-use Rattle.laws.specs.{ℕ, _+_, _*_, _≤_, _≡_, Bool, true, false, allOf, List, [], _∷_, leb, length, take, drop}
+use Rattle.laws.specs.{ℕ, _*_, _≤_, _≡_, Bool, true, false, List, length, take, drop}
 use Prim.Native.Nat.{_<_}
 use Rattle.text.specs.{Wrote}
-use Rattle.table.specs.{longestTable}
 use Rattle.book_print.specs.{reportWidth}
-use Rattle.book_listing.specs.{linesOf, Run, runFrom, printedFrom, longestBook}
-use Rattle.book_run.specs.declared.Reached.{Reached}
+use Rattle.book_listing.specs.{linesOf, runFrom, printedFrom}
+use Rattle.book_reached.specs.{Reached, runOf, mayRunFrom}
 use Rattle.book_run.specs.declared.Part.{Part}
-
--- the run that lines have come to
-abbrev pub runOf : Reached → Run
-runOf reached = record {
-  own = take (reached .count) (reached .table);
-  holding = reached .holding;
-  accepted = reached .accepted;
-  refused = reached .refused;
-}
 
 -- the lines of a book from a place on
 abbrev pub linesFrom : List ℕ → ℕ → List (List ℕ)
 linesFrom book next = linesOf (drop next book)
-
--- whether a book of so many bytes is none too long, and can have come so far: its table has no more numbers than a table may have, and no more lines were
--- accepted or refused than bytes lie before the place; a last line that lacks its byte 10 ends one place behind the book
-unfoldable pub mayRun : ℕ → ℕ → ℕ → ℕ → ℕ → Bool
-mayRun length next count accepted refused =
-    allOf (leb length longestBook ∷ leb next (longestBook + 1) ∷ leb count longestTable ∷ leb accepted next ∷ leb refused next ∷ [])
-
-abbrev pub mayRunFrom : List ℕ → ℕ → Reached → Bool
-mayRunFrom book next reached = mayRun (length book) next (reached .count) (reached .accepted) (reached .refused)
 
 -- what they print is put, and the rest is that of their run
 pub record RunOf (book : List ℕ) (next : ℕ) (reached : Reached) (most : ℕ) (out after : List ℕ) (part : Part) : Type 0 where

@@ -1,97 +1,11 @@
 // Runs the lines of a book, on one holding and one table, and puts what each prints.
 ghost use mathlib.Core.Path.{_≡_};
-ghost use Prim.Native.Nat.{_≤_};
-ghost use lib.ListN.{length, take};
-ghost use Rattle.table.specs.{longestTable};
-ghost use Rattle.line.specs.{entryOf};
-ghost use Rattle.book_run.specs.{refusalIn, TakesColumn, TakesLine, mayRun, mayRunFrom, RunsIf};
-use book_listing::LONGEST_BOOK;
+ghost use Rattle.book_reached.specs.{mayRunFrom};
+ghost use Rattle.book_run.specs.{RunsIf};
+use book_reached::Reached;
 use holding::Found;
-use holding::Holding;
 use holding::MOST_AREAS;
 use holding_look::Looked;
-use line_entry::Entry;
-use line_entry::Parsed;
-use refusals::Refusal;
-use refusals::Verdict;
-use step_outcome::Outcome;
-use step_outcome::Report;
-use table::LONGEST_TABLE;
-
-// T extends the table in place, and leaves the holding.
-fn take_column(
-    table: &mut [u16; LONGEST_TABLE],
-    count: &mut usize,
-    areas: usize,
-    line: &[u8],
-) -> Outcome
-    requires { ⌜ (now count ≤ longestTable) × (length (now table) ≡ longestTable) ⌝ }
-    ensures { λ r. ⌜ TakesColumn (take (now (count .entry)) (now (table .entry))) areas (now (line .entry)) (now (table .exit)) (now (count .exit)) r ⌝ }
-{
-    let own = &table[..];
-    let grown = table_grow::grow(&own[0..*count], areas, line);
-    let verdict = grown.verdict;
-    match verdict {
-        Verdict::Refused(refusal) => step_outcome::turned(refusal),
-        Verdict::Accepted => {
-            let numbers = grown.numbers;
-            *table = numbers;
-            *count = grown.count;
-            let area = holding::empty_area();
-            Outcome {
-                verdict: Verdict::Accepted,
-                report: Report::Nothing,
-                place: Found::Nowhere,
-                count: areas,
-                area,
-            }
-        }
-    }
-}
-
-// Why a line is no entry.
-fn refusal_in(parsed: Parsed) -> Refusal
-    ensures { λ r. ⌜ r ≡ refusalIn parsed ⌝ }
-{
-    match parsed {
-        Parsed::Refused(refusal) => refusal,
-        Parsed::Taken(_) => Refusal::Form,
-    }
-}
-
-// What a line comes to, as it was read, on the area that it names. An act on an area leaves the table.
-fn take_line(
-    table: &mut [u16; LONGEST_TABLE],
-    count: &mut usize,
-    default: &[u16],
-    looked: Looked,
-    line: &[u8],
-    parsed: Parsed,
-) -> Outcome
-    requires { ⌜ (now count ≤ longestTable) × (length (now table) ≡ longestTable) × (parsed ≡ entryOf (now line)) ⌝ }
-    ensures { λ r. ⌜ TakesLine (take (now (count .entry)) (now (table .entry))) (now (default .entry)) looked (now (line .entry)) (now (table .exit)) (now (count .exit)) r ⌝ }
-{
-    let Parsed::Taken(entry) = parsed else {
-        return step_outcome::turned(refusal_in(parsed));
-    };
-    match entry {
-        Entry::Column { column: _ } => take_column(table, count, looked.count, line),
-        Entry::On(on) => {
-            let own = &table[..];
-            let act = on.act;
-            step::apply_to(&own[0..*count], default, looked, act)
-        }
-    }
-}
-
-// What a book's lines have come to: the holding, the participant's table at the front of `table`, and how many lines were accepted and refused.
-pub struct Reached {
-    pub holding: Holding,
-    pub table: [u16; LONGEST_TABLE],
-    pub count: usize,
-    pub accepted: u64,
-    pub refused: u64,
-}
 
 // What lines that are run come to: how many bytes were put, the place in the book of the line that comes next, and what the lines before it have come to.
 pub struct Part {
@@ -100,24 +14,12 @@ pub struct Part {
     pub reached: Reached,
 }
 
-// Whether a book of so many bytes can have come so far: no more lines were counted than bytes were run.
-pub fn may_run(length: usize, next: usize, count: usize, accepted: u64, refused: u64) -> bool
-    ensures { λ r. ⌜ r ≡ mayRun length next count accepted refused ⌝ }
-{
-    let most = next as u64;
-    (length <= LONGEST_BOOK)
-        & (next <= LONGEST_BOOK + 1)
-        & (count <= LONGEST_TABLE)
-        & (accepted <= most)
-        & (refused <= most)
-}
-
 // Runs the lines of a book from a place on, so many at most, and puts what each prints; where the book cannot have come so far, nothing is run. The
 // numbers of the areas are kept beside them, so that no line is given the holding.
 pub fn put_lines(book: &[u8], next: usize, reached: Reached, most: usize, out: &mut [u8]) -> Part
     ensures { λ r. ⌜ RunsIf (mayRunFrom (now (book .entry)) next reached) (now (book .entry)) next reached most (now (out .entry)) (now (out .exit)) r ⌝ }
 {
-    if !may_run(
+    if !book_reached::may_run(
         book.len(),
         next,
         reached.count,
@@ -157,7 +59,7 @@ pub fn put_lines(book: &[u8], next: usize, reached: Reached, most: usize, out: &
             found,
             area: named,
         };
-        let outcome = take_line(
+        let outcome = book_turn::take_line(
             &mut table,
             &mut count,
             &default,

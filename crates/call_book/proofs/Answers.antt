@@ -14,8 +14,8 @@ use Rattle.statement.specs.{readOf}
 use Rattle.book_listing.specs.{parsedTaken, lineTaken}
 use Rattle.theorem_keeping.specs.{Kept}
 use Rattle.theorem_round_trips.proofs.Trips.{accepts-that}
-use Rattle.call_output.specs.{tableBytes}
-use Rattle.call_line.specs.{lineVerdict, tableVerdict, callVerdict, parsedBytes, callBytes, withRoom, callWeighed, callAnswer, callOutput}
+use Rattle.call_output.specs.{tableBytes, withRoom}
+use Rattle.call_answer.specs.{lineVerdict, tableVerdict, callVerdict, parsedBytes, callBytes, callWeighed, callAnswer, callOutput}
 use Rattle.call_book.specs.{Caller, isColumnLine, reportIn, taken, answered, afterCall, shown, shownAfter}
 use Rattle.call_book.proofs.Tables.{numbers-back, table-accepted}
 

@@ -10,6 +10,7 @@ use Rattle.line.specs.{entryOf}
 use Rattle.schedules.specs.{schedule6}
 use Rattle.holding.specs.{Holding}
 use Rattle.step_outcome.specs.{placed}
+use Rattle.step_outcome.proofs.Laws.{answered-clear}
 use Rattle.step.specs.{applied}
 use Rattle.statement_format.specs.{statementOf}
 use Rattle.statement.specs.{readOf}
@@ -23,9 +24,8 @@ use Rattle.theorem_round_trips.proofs.Trips.{read-kept}
 use Rattle.book_room.proofs.Widths.{printed-most}
 use Rattle.book_room.proofs.Reports.{applied-length}
 use Rattle.call_output.proofs.TableBytes.{bytes-length}
-use Rattle.call_line.specs.{tableVerdict, callVerdict, entryBytes, parsedBytes, callBytes}
-use Rattle.call_line.proofs.Smaller.{call-clear}
-use Rattle.call_line.proofs.Sorts.{accepted-column}
+use Rattle.call_answer.specs.{tableVerdict, callVerdict, entryBytes, parsedBytes, callBytes}
+use Rattle.call_answer.proofs.Smaller.{call-clear}
 use Rattle.call_book.specs.{mostWritten, begin, callsFrom}
 use Rattle.call_book.proofs.Taken.{act-kept}
 use Rattle.call_book.proofs.Lengths.{statement-few}
@@ -40,7 +40,7 @@ module _ (own : List ℕ) (holding : Holding) (isOwn : isTable own ≡ true) (ke
   entry-few : (entry : Entry) → entryTaken own holding line entry .verdict ≡ Verdict.Accepted → length (entryBytes own holding line entry) ≤ mostWritten
   unfolding entryBytes entryTaken
   entry-few (Entry.Column column) e =
-      let grown = accepted-column (growable own (holding .count) line) holding e .0 in
+      let grown = answered-clear (growable own (holding .count) line) _ e .0 in
       omega (arith, bytes-length (longerBy own line), longer-fits own (holding .count) line grown)
   entry-few (Entry.On on) e =
       let outcome = applied own schedule6 holding on in

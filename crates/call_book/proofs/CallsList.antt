@@ -9,6 +9,7 @@ use Rattle.line.specs.{entryOf}
 use Rattle.line.proofs.Columns.{isColumn}
 use Rattle.holding.specs.{Holding}
 use Rattle.step_outcome.specs.{Outcome, placed}
+use Rattle.step_outcome.proofs.Laws.{answered-clear}
 use Rattle.statement_format.specs.{statementOf}
 use Rattle.table_grow.specs.{growable, longerBy}
 use Rattle.book_print.specs.{reportText, refusalText, pairText}
@@ -16,9 +17,8 @@ use Rattle.book_listing.specs.{entryTaken, parsedTaken, lineTaken, parsedTable,
 use Rattle.book_listing.proofs.Folding.{list-line, list-none}
 use Rattle.theorem_keeping.specs.{Kept}
 use Rattle.theorem_keeping.proofs.Keeping.{empty-kept}
-use Rattle.call_output.specs.{tableBytes}
-use Rattle.call_line.specs.{stateBytes, entryBytes, parsedBytes, callVerdict, callBytes}
-use Rattle.call_line.proofs.Sorts.{accepted-column}
+use Rattle.call_output.specs.{tableBytes, stateBytes}
+use Rattle.call_answer.specs.{entryBytes, parsedBytes, callVerdict, callBytes}
 use Rattle.call_book.specs.{Caller, begin, statementIn, reportIn, taken, afterCall, shownAfter, callsFrom}
 use Rattle.call_book.proofs.Split.{statement-split, report-split}
 use Rattle.call_book.proofs.ColumnLines.{column-line}
@@ -109,7 +109,7 @@ module _ (most : ℕ) (caller : Caller) (run : Run) (f : Follows most caller run
   column-matches column clear enough read =
       let after = accepted-after clear enough (Entry.Column column) read true refl in
       let same = by-entry clear enough (Entry.Column column) read in
-      let grown = accepted-column (growable own (holding .count) line) holding (ap (λ (o : Outcome). o .verdict) (sym same) ∙ clear) in
+      let grown = answered-clear (growable own (holding .count) line) _ (ap (λ (o : Outcome). o .verdict) (sym same) ∙ clear) in
       record {
         follows = follows-as (after .0)
             (next-accepted run line (longerBy own line) holding clear (ap (parsedTable own line) read) (ap (placed holding) (same ∙ grown .1))) (record {

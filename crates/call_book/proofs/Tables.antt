@@ -10,7 +10,7 @@ use Rattle.table_grow.specs.{lineColumn, lineCells, longerBy, growable}
 use Rattle.table_grow.proofs.Fits.{grown-extensible}
 use Rattle.call_output.specs.{tableBytes}
 use Rattle.call_output.proofs.TableBytes.{bytes-length}
-use Rattle.call_line.specs.{tableVerdict}
+use Rattle.call_answer.specs.{tableVerdict}
 
 pub numbers-back : (own : List ℕ) → numbersOf (tableBytes own) ≡ own
 unfolding numbersOf tableBytes

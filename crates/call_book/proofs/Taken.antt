@@ -11,12 +11,11 @@ use Rattle.step.specs.{applied}
 use Rattle.step.proofs.Entered.{step-is}
 use Rattle.table_grow.specs.{growable}
 use Rattle.book_print.specs.{reportText, refusalText}
-use Rattle.book_listing.specs.{entryTaken, parsedTaken, lineTaken, parsedTable, tableAfter, Run, next, printedFor, printed}
+use Rattle.book_listing.specs.{columnTaken, entryTaken, parsedTaken, lineTaken, parsedTable, tableAfter, Run, next, printedFor, printed}
 use Rattle.theorem_keeping.specs.{Kept}
 use Rattle.theorem_keeping.proofs.Answers.{refusal-leaves}
 use Rattle.theorem_keeping.proofs.Keeping.{step-keeps}
 use Rattle.theorem_keeping.proofs.Refused.{refused-leaves}
-use Rattle.call_line.proofs.Sorts.{columnOutcome}
 
 module _ (own : List ℕ) (holding : Holding) (table : isTable own ≡ true) where
   act-leaves : (on : AreaAct) (r : Refusal) → applied own schedule6 holding on .verdict ≡ Verdict.Refused r → placed holding (applied own schedule6 holding on) ≡ holding
@@ -28,7 +27,7 @@ module _ (own : List ℕ) (holding : Holding) (table : isTable own ≡ true) whe
   pub line-leaves : (line : List ℕ) (parsed : Parsed) (r : Refusal) → parsedTaken own holding line parsed .verdict ≡ Verdict.Refused r
       → placed holding (parsedTaken own holding line parsed) ≡ holding
   unfolding parsedTaken entryTaken placed
-  line-leaves line (Parsed.Taken (Entry.Column column)) r e = refusal-leaves holding (columnOutcome holding) (growable own (holding .count) line) r refl e
+  line-leaves line (Parsed.Taken (Entry.Column column)) r e = refusal-leaves holding (columnTaken (holding .count)) (growable own (holding .count) line) r refl e
   line-leaves line (Parsed.Taken (Entry.On on)) r e = act-leaves on r e
   line-leaves line (Parsed.Refused s) r e = refl
 

@@ -6,7 +6,7 @@ use Rattle.book_room.specs.{returnWidth}
 use Rattle.holding.specs.{emptyHolding}
 use Rattle.statement_format.specs.{statementOf, carriedWidth}
 use Rattle.book_print.specs.{pairText, endText}
-use Rattle.call_line.specs.{callAnswer, callOutput}
+use Rattle.call_answer.specs.{callAnswer, callOutput}
 
 -- the most bytes that a call writes (`call-few`): an output as long is never too short
 abbrev pub mostWritten : ℕ

@@ -1,7 +1,2 @@
-pub mod Sorts
-pub mod Smaller
-pub mod Ranged
-pub mod Tables
-pub mod Order
+pub mod TableRead
 pub mod Given
-pub mod Bridge

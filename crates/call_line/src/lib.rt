@@ -1,19 +1,16 @@
 // The call of a recorder's own program: its verdict, and what it writes.
 ghost use mathlib.Core.Path.{_≡_};
 ghost use lib.ListN.{length};
-ghost use lib.Dec.{leb};
 ghost use mathlib.Core.Bool.{true};
-ghost use Rattle.refusals.specs.{written, weighed, bufferAfter};
+ghost use Rattle.refusals.specs.{written, bufferAfter};
 ghost use Rattle.line.specs.{isColumnLine};
 ghost use Rattle.table.specs.{longestTable};
 ghost use Rattle.table_bytes.specs.{numbersOf, decodable};
-ghost use Rattle.table_extend.specs.{begun, longer};
-ghost use Rattle.call_output.specs.{tableBytes};
-ghost use Rattle.call_line.specs.{tableVerdict, callVerdict, callBytes, callWeighed, callOutput, Gives, refusedBy, verdictIn, countIn, cellsVerdict, stepVerdict, stepBytes};
-use line_entry::AreaAct;
+ghost use Rattle.call_output.specs.{Gives};
+ghost use Rattle.call_answer.specs.{tableVerdict, callVerdict, callBytes, callWeighed, callOutput};
+ghost use Rattle.call_line.specs.{refusedBy};
 use line_entry::Entry;
 use line_entry::Parsed;
-use refusals::Refusal;
 use refusals::Verdict;
 use refusals::Written;
 use table::LONGEST_TABLE;
@@ -50,55 +47,6 @@ fn read_table(table: &[u8], numbers: &mut [u16]) -> Written
     }
 }
 
-// What a longer table is answered with once areas stand, and how many numbers it has.
-fn grown_verdict(answer: Written, areas: usize) -> Verdict
-    ensures { λ r. ⌜ r ≡ weighed (verdictIn answer) (leb 1 areas) Refusal.TableAfterArea ⌝ }
-{
-    match answer {
-        Written::Refused(refusal) => Verdict::Refused(refusal),
-        Written::Count(_) => refusals::weigh(
-            Verdict::Accepted,
-            1 <= areas,
-            Refusal::TableAfterArea,
-        ),
-    }
-}
-
-fn grown_count(answer: Written) -> usize
-    ensures { λ r. ⌜ r ≡ countIn answer ⌝ }
-{
-    match answer {
-        Written::Refused(_) => 0,
-        Written::Count(count) => count,
-    }
-}
-
-// The table longer by a column of given cells.
-fn take_cells(
-    statement: &[u8],
-    own: &[u16],
-    column: usize,
-    cells: &[u16],
-    out: &mut [u8],
-) -> Written
-    ensures { λ r. ⌜ Gives (cellsVerdict (now (own .entry)) (now (statement .entry)) column (now (cells .entry))) (tableBytes (longer (begun (now (own .entry))) column (now (cells .entry)))) (now (out .entry)) r (now (out .exit)) ⌝ }
-{
-    let passed = statement_pass::pass(statement, 0);
-    let read_verdict = passed.verdict;
-    let looked = passed.looked;
-    let mut numbers = [0u16; LONGEST_TABLE];
-    let answer = table_extend::extend(own, column, cells, &mut numbers);
-    let table_verdict = grown_verdict(answer, looked.count);
-    let v = refusals::least(read_verdict, table_verdict);
-    match v {
-        Verdict::Refused(refusal) => Written::Refused(refusal),
-        Verdict::Accepted => {
-            let count = grown_count(answer);
-            call_output::write_table(&numbers[0..count], out)
-        }
-    }
-}
-
 // A T line: the table longer by its column. It is judged where its cells are read.
 fn take_column(statement: &[u8], table: &[u8], line: &[u8], out: &mut [u8]) -> Written
     requires { ⌜ isColumnLine (now line) ≡ true ⌝ }
@@ -114,48 +62,28 @@ fn take_column(statement: &[u8], table: &[u8], line: &[u8], out: &mut [u8]) -> W
         Verdict::Accepted => {
             if table.len() == 0 {
                 let none = [0u16; 1];
-                return take_cells(statement, &none[0..0], column, &cells[0..many], out);
+                return call_column::take_cells(
+                    statement,
+                    &none[0..0],
+                    column,
+                    &cells[0..many],
+                    out,
+                );
             }
             let mut numbers = [0u16; LONGEST_TABLE];
             let own = read_table(table, &mut numbers);
             match own {
                 Written::Refused(refusal) => Written::Refused(refusal),
                 Written::Count(count) => {
-                    take_cells(statement, &numbers[0..count], column, &cells[0..many], out)
+                    call_column::take_cells(
+                        statement,
+                        &numbers[0..count],
+                        column,
+                        &cells[0..many],
+                        out,
+                    )
                 }
             }
-        }
-    }
-}
-
-// An act on an area: a step of the holding that the statement carries.
-fn take_step(statement: &[u8], own: &[u16], on: AreaAct, out: &mut [u8]) -> Written
-    ensures { λ r. ⌜ Gives (stepVerdict (now (own .entry)) (now (statement .entry)) on) (stepBytes (now (own .entry)) (now (statement .entry)) on) (now (out .entry)) r (now (out .exit)) ⌝ }
-{
-    let passed = statement_pass::pass(statement, on.area);
-    let read_verdict = passed.verdict;
-    let looked = passed.looked;
-    let act = on.act;
-    let outcome = step::act_on(own, looked, act);
-    let step_verdict = outcome.verdict;
-    let v = refusals::least(read_verdict, step_verdict);
-    match v {
-        Verdict::Refused(refusal) => Written::Refused(refusal),
-        Verdict::Accepted => {
-            let body = passed.body;
-            let from = passed.from;
-            let to = passed.to;
-            let count = outcome.count;
-            let area = outcome.area;
-            let report = outcome.report;
-            call_output::write_changed(
-                count,
-                &statement[body..from],
-                area,
-                &statement[to..],
-                report,
-                out,
-            )
         }
     }
 }
@@ -179,12 +107,12 @@ pub fn call(statement: &[u8], table: &[u8], line: &[u8], out: &mut [u8]) -> Writ
     };
     if table.len() == 0 {
         let none = [0u16; 1];
-        return take_step(statement, &none[0..0], on, out);
+        return call_step::take_step(statement, &none[0..0], on, out);
     }
     let mut numbers = [0u16; LONGEST_TABLE];
     let own = read_table(table, &mut numbers);
     match own {
         Written::Refused(refusal) => Written::Refused(refusal),
-        Written::Count(count) => take_step(statement, &numbers[0..count], on, out),
+        Written::Count(count) => call_step::take_step(statement, &numbers[0..count], on, out),
     }
 }

@@ -1,2 +1,3 @@
 pub mod TableBytes
 pub mod Changed
+pub mod Given

@@ -1,3 +1,5 @@
 pub mod Outputs
-pub use Outputs.{reportedBytes, changedWidth}
-unfoldable pub use Outputs.{tableBytes, changedText, changedBytes}
+pub mod Given
+pub use Outputs.{reportedBytes, stateBytes, changedWidth}
+unfoldable pub use Outputs.{tableBytes, changedText, changedBytes, withRoom}
+pub use Given.{Gives}

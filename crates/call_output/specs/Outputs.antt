@@ -1,9 +1,10 @@
 -- What a call writes: "The output takes the new statement, then what `book` prints for an accepted R or W; for T it takes the longer table instead,
 -- two bytes a number, low byte first, as the table comes in."
-use Rattle.laws.specs.{code, ℕ, _/_, _%_, List, [], _∷_, _++_, _+_}
+use Rattle.laws.specs.{code, ℕ, _/_, _%_, List, [], _∷_, _++_, _+_, ltb, length}
+use Rattle.refusals.specs.{Refusal, Verdict, weighed}
 use Rattle.text.specs.{lineEnd}
 use Rattle.holding.specs.{Area, Holding}
-use Rattle.step_outcome.specs.{Report}
+use Rattle.step_outcome.specs.{Outcome, Report, placed}
 use Rattle.statement_format.specs.{startText, numberText, joined, areaText, statementOf, startWidth, longWidth, areaWidth}
 use Rattle.book_print.specs.{reportText, reportWidth}
 
@@ -13,6 +14,10 @@ tableBytes (n ∷ numbers) = n % 256 ∷ n / 256 ∷ tableBytes numbers
 
 abbrev pub reportedBytes : Holding → Report → List ℕ
 reportedBytes holding report = statementOf holding ++ reportText report
+
+-- after a step of a holding
+abbrev pub stateBytes : Holding → Outcome → List ℕ
+stateBytes holding outcome = reportedBytes (placed holding outcome) (outcome .report)
 
 -- a statement of which one area is changed: its first line, bytes as they came, the area, bytes as they came
 unfoldable pub changedText : ℕ → List ℕ → Area → List ℕ → List ℕ
@@ -24,3 +29,7 @@ changedBytes count before area behind report = changedText count before area beh
 -- what these take at most besides the bytes as they came
 abbrev pub changedWidth : ℕ
 changedWidth = startWidth + longWidth + areaWidth + reportWidth
+
+-- "8 output shorter than needed": "8 only where no other applies"
+unfoldable pub withRoom : Verdict → List ℕ → ℕ → Verdict
+withRoom verdict bytes room = weighed verdict (ltb room (length bytes)) Refusal.OutputShort

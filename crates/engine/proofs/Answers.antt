@@ -3,7 +3,8 @@ use Rattle.laws.proofs.{ℕ, _≤_, _≡_, refl, sym, ap, _∙_, List, arith, l
 use lib.IntN.{pos, negℤ}
 use Rattle.refusals.specs.{Refusal, Verdict, numberOf, Written, written}
 use Rattle.refusals.proofs.Laws.{clear-before}
-use Rattle.call_line.specs.{withRoom, callVerdict, callBytes, callWeighed, answerOf, callAnswer}
+use Rattle.call_output.specs.{withRoom}
+use Rattle.call_answer.specs.{callVerdict, callBytes, callWeighed, answerOf, callAnswer}
 use Rattle.call_book.specs.{mostWritten}
 use Rattle.call_book.proofs.Bound.{call-few}
 

@@ -3,7 +3,7 @@ ghost use mathlib.Core.Path.{_≡_};
 ghost use lib.IntN.{negℤ, pos};
 ghost use lib.ListN.{length};
 ghost use Rattle.refusals.specs.{numberOf};
-ghost use Rattle.call_line.specs.{callAnswer, callOutput};
+ghost use Rattle.call_answer.specs.{callAnswer, callOutput};
 use refusals::Refusal;
 use refusals::Written;
 

@@ -7,7 +7,8 @@ use Rattle.refusals.specs.{Verdict, Case, _⇒_, weighed, weighAll, smallest, b
 use Rattle.refusals.proofs.Smallest.{turned-stands}
 use Rattle.refusals.proofs.Laws.{RuledOut, ruled-out}
 use Rattle.line_entry.specs.{Entry, Parsed, Rule, parsed, openRule, addRule, clearRule, plantRule, fileRule, withdrawRule}
-use Rattle.line_column.specs.{ReadColumn, cellsOf, columnOf, columnRule, tenthsAll, readable, columnRead}
+use Rattle.line_cells.specs.{tenthsAll}
+use Rattle.line_column.specs.{ReadColumn, cellsOf, columnOf, columnRule, readable, columnRead}
 use Rattle.line.proofs.Laws.{first-passed}
 use Rattle.line.specs.{bodyOf, fieldsOf, longest, letterOf, isColumnLine, noRule, ruleOf, lineRule, conditions, entryOf, asColumn}
 

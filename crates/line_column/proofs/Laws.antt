@@ -1,52 +1,16 @@
--- Cells: a turn of the scan adds a cell to what was judged and kept.
-use Rattle.laws.proofs.{ℕ, _+_, _-_, _≤_, _<_, _≡_, refl, sym, ap, _∙_, Bool, true, false, _||_, List, arith, add-one, ltb-false, ltb, length, length-map, take, drop, set, length-drop, drop-of-length-le, replicate, sets}
+-- All the cells of a line, and room for them.
+use Rattle.laws.proofs.{ℕ, _-_, _≤_, _≡_, refl, sym, ap, _∙_, false, List, arith, ltb-false, ltb, length, take, length-drop, drop-of-length-le, replicate, sets}
 use Rattle.laws.specs.{some}
 use Rattle.laws.proofs.Stores.{stored-in-front, stored-stands}
-use Rattle.text.specs.{comma, widthTo, split}
-use Rattle.text.proofs.Fields.{field-last, field-comma}
-use Rattle.text_number.specs.{Number}
-use Rattle.text_value.specs.{fitted}
-use Rattle.text_decimal.specs.{cellIn}
+use Rattle.text.specs.{split}
 use Rattle.text_field.specs.{Places, placesOf}
 use Rattle.text_field.proofs.Laws.{count-found}
 use Rattle.refusals.specs.{Refusal, Verdict, weighed, bufferAfter}
 use Rattle.refusals.proofs.Laws.{RuledOut, clear-before, clear-last}
 use Rattle.table.specs.{longestColumn}
-use Rattle.line_column.specs.{cellsOf, someCell, columnOf, tenthsIn, tenthsAll, cellsFound, columnRule, readable, columnRead}
-
-module _ (s : List ℕ) (start end : ℕ) (e : end ≡ start + widthTo comma (drop start s)) (h : start ≤ length s) (cell : Number)
-    (read : cell ≡ cellIn (take (end - start) (drop start s))) where
-  module _ (kind : Number → Bool) (found : Bool) (b : Bool) (q : b ≡ kind cell) where
-    pub judge-next : end < length s → (found || b) || someCell kind (split (drop (end + 1) s)) ≡ found || someCell kind (split (drop start s))
-    unfolding some
-    judge-next l = go found
-      where
-        go : (x : Bool) → (x || b) || someCell kind (split (drop (end + 1) s)) ≡ x || someCell kind (split (drop start s))
-        go true = refl
-        go false = rw (field-comma s start end e h l, q, read)
-
-    pub judge-last : length s ≤ end → end ≤ length s → found || b ≡ found || someCell kind (split (drop start s))
-    unfolding some
-    judge-last l u = go found
-      where
-        none : (x : Bool) → x ≡ x || false
-        none true = refl
-        none false = refl
-
-        go : (x : Bool) → x || b ≡ x || someCell kind (split (drop start s))
-        go true = refl
-        go false = rw (field-last s start end e h l u, q, read) (none _)
-
-  module _ (cells kept : List ℕ) (k tenths : ℕ) (q : kept ≡ set cells k tenths) (t : tenths ≡ fitted 65535 cell) where
-    pub keep-next : end < length s → sets kept (k + 1) (tenthsAll (split (drop (end + 1) s))) ≡ sets cells k (tenthsAll (split (drop start s)))
-    unfolding tenthsAll
-    keep-next l = rw (field-comma s start end e h l, q, t, read, add-one)
-
-    pub keep-last : length s ≤ end → end ≤ length s → kept ≡ sets cells k (tenthsAll (split (drop start s)))
-    unfolding tenthsAll
-    keep-last l u = rw (field-last s start end e h l u, q, t, read)
-
--- ---- all the cells of a line, and room for them
+use Rattle.line_cells.specs.{tenthsAll, cellsFound}
+use Rattle.line_cells.proofs.Laws.{cells-many}
+use Rattle.line_column.specs.{cellsOf, columnOf, columnRule, readable, columnRead}
 
 pub counted : (s : List ℕ) (places : Places) (n : ℕ) → places ≡ placesOf (split s) → n ≡ places .count - 3 → n ≡ length (cellsOf (split s))
 counted s places n scanned q = q ∙ ap (λ (m : ℕ). m - 3) (count-found s places scanned) ∙ sym (length-drop 3 (split s))
@@ -59,10 +23,6 @@ module _ (fs : List (List ℕ)) (h : length fs ≤ 3) where
   pub none-kept : (out : List ℕ) → out ≡ sets out 0 (tenthsAll (cellsOf fs))
   unfolding tenthsAll
   none-kept out = rw (drop-of-length-le fs h)
-
-pub cells-many : (fs : List (List ℕ)) → length (tenthsAll fs) ≡ length fs
-unfolding tenthsAll
-cells-many fs = length-map fs tenthsIn
 
 -- the front of 101 places in which the cells were kept
 pub kept-front : (fs : List (List ℕ)) (count : ℕ) (kept : List ℕ) → length (cellsOf fs) ≤ longestColumn → count ≡ length (cellsOf fs)

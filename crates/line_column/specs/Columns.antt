@@ -1,15 +1,12 @@
 -- "T,kind,type,cells: kind G (stock) or R (residue); type P, D, S, H or N; 1 to 101 cells, each a number with at most one decimal, at most 3000."
-use Rattle.laws.specs.{code, ℕ, Bool, not, List, [], _∷_, map, leb, ltb, length, drop, some}
+use Rattle.laws.specs.{code, ℕ, not, List, [], _∷_, leb, ltb, length, drop}
 use Rattle.table.specs.{longestColumn}
-use Rattle.schedules.specs.{cellCeiling}
 use Rattle.text.specs.{holds, fieldAt}
-use Rattle.text_number.specs.{Number}
-use Rattle.text_value.specs.{malformed, outside, fitted}
-use Rattle.text_decimal.specs.{cellIn}
+use Rattle.text_value.specs.{malformed}
 use Rattle.refusals.specs.{Verdict, _⇒_, weighed, Refusal}
 use Rattle.table_parts.specs.{kindLetters, typeLetters, columnNumber}
+use Rattle.line_cells.specs.{someCell, badCell}
 use Rattle.line_entry.specs.{Rule, Entry, letterIn, misnamed}
-use Rattle.line_column.specs.declared.Cells.{Cells}
 use Rattle.line_column.specs.declared.ReadColumn.{ReadColumn}
 
 -- the place of the first cell among a line's fields
@@ -19,14 +16,6 @@ firstCell = 3
 -- the cells of a line's fields
 abbrev pub cellsOf : List (List ℕ) → List (List ℕ)
 cellsOf fs = drop firstCell fs
-
--- some cell, read, is of a kind
-abbrev pub someCell : (Number → Bool) → List (List ℕ) → Bool
-someCell kind fs = some (λ f. kind (cellIn f)) fs
-
--- "at most 3000"
-abbrev pub badCell : Number → Bool
-badCell n = outside 0 cellCeiling n
 
 -- the letters of the column's kind and type
 abbrev pub kindIn : List (List ℕ) → ℕ
@@ -52,17 +41,6 @@ columnRule fs = record {
       ∷ [];
   entry = Entry.Column (columnOf fs);
 }
-
--- a cell's tenths; a field that is no cell counts as 0
-abbrev pub tenthsIn : List ℕ → ℕ
-tenthsIn f = fitted 65535 (cellIn f)
-
-unfoldable pub tenthsAll : List (List ℕ) → List ℕ
-tenthsAll fs = map tenthsIn fs
-
--- what a scan of cells finds
-unfoldable pub cellsFound : List (List ℕ) → Cells
-cellsFound fs = record { malformed = someCell malformed fs; over = someCell badCell fs }
 
 -- "8 output shorter than needed", "8 only where no other applies": the line's own verdict, and then the room for its cells
 unfoldable pub readable : Verdict → List (List ℕ) → ℕ → Verdict

@@ -1,24 +1,20 @@
 // The T entry: a column of the participant's table.
 ghost use mathlib.Core.Path.{_≡_};
 ghost use Prim.Native.Nat.{_-_, _≤_};
-ghost use lib.ListN.{length, drop, set};
+ghost use lib.ListN.{length};
 ghost use lib.Seq.{sets};
 ghost use Rattle.text.specs.{split};
 ghost use Rattle.line_entry.specs.{parsedBy};
 ghost use Rattle.text_field.specs.{placesOf};
 ghost use Rattle.refusals.specs.{smallest, bufferAfter};
-ghost use Rattle.line_column.specs.{firstCell, cellsOf, columnOf, cellsFound, tenthsAll, columnRule, readable, columnRead};
+ghost use Rattle.line_cells.specs.{cellsFound, tenthsAll};
+ghost use Rattle.line_column.specs.{firstCell, cellsOf, columnOf, columnRule, readable, columnRead};
+use line_cells::Cells;
 use line_entry::Entry;
 use line_entry::Parsed;
 use refusals::Refusal;
 use refusals::Verdict;
 use text_field::Places;
-
-// Whether a cell is malformed, and whether one is over the greatest.
-pub struct Cells {
-    pub malformed: bool,
-    pub over: bool,
-}
 
 // A column read out: its number, and how many cells it has; neither where the line is refused.
 pub struct ReadColumn {
@@ -30,42 +26,6 @@ pub struct ReadColumn {
 const FIRST_CELL: usize = 3;
 
 const MOST_CELLS: usize = table::LONGEST_COLUMN as usize;
-
-const GREATEST_CELL: u64 = table::CELL_CEILING as u64;
-
-// Keeps a cell's tenths, while there is room.
-fn keep(cells: &mut [u16], k: usize, tenths: u16)
-    ensures { λ _. ⌜ now (cells .exit) ≡ set (now (cells .entry)) k tenths ⌝ }
-{
-    if k < cells.len() {
-        cells[k] = tenths;
-    }
-}
-
-// Judges the cells from a place of the line on, and keeps their tenths.
-fn scan_cells(line: &[u8], first: usize, cells: &mut [u16]) -> Cells
-    requires { ⌜ first ≤ length (now line) ⌝ }
-    ensures { λ r. ⌜ r ≡ cellsFound (split (drop first (now (line .entry)))) ⌝ }
-    ensures { λ _. ⌜ now (cells .exit) ≡ sets (now (cells .entry)) 0 (tenthsAll (split (drop first (now (line .entry))))) ⌝ }
-{
-    let mut malformed = false;
-    let mut over = false;
-    let mut k: usize = 0;
-    let mut start = first;
-    loop {
-        let end = text::end_of(line, start, b',');
-        let cell = text_decimal::cell(&line[start..end]);
-        malformed = malformed | text_value::is_malformed(cell);
-        over = over | text_value::is_outside(cell, 0, GREATEST_CELL);
-        keep(cells, k, text_value::value_u16(cell));
-        if line.len() <= end {
-            break;
-        }
-        k += 1;
-        start = end + 1;
-    }
-    Cells { malformed, over }
-}
 
 // How many fields stand behind the type.
 fn cell_count(count: usize) -> usize
@@ -91,7 +51,7 @@ fn all_cells(line: &[u8], places: Places, cells: &mut [u16]) -> Cells
     }
     let starts = places.starts;
     let first = starts[FIRST_CELL];
-    scan_cells(line, first, cells)
+    line_cells::scan_cells(&line[first..], cells)
 }
 
 // The fields judged, and what they say of the column whatever the verdict; the cells are kept, while there is room.

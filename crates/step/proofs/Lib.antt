@@ -1,3 +1,2 @@
 pub mod Smallest
 pub mod Entered
-pub mod Placed

@@ -16,6 +16,17 @@ module _ (v w : Verdict) (e : w ≡ v) where
   unfolding answered
   taken given outcome t g = simp (g, sym e, t)
 
+-- an answer has the verdict, and a clear one is the accepted outcome
+pub answered-verdict : (v : Verdict) (outcome : Outcome) → outcome .verdict ≡ Verdict.Accepted → answered v outcome .verdict ≡ v
+unfolding answered
+answered-verdict Verdict.Accepted outcome e = e
+answered-verdict (Verdict.Refused r) outcome e = refl
+
+pub answered-clear : (v : Verdict) (outcome : Outcome) → answered v outcome .verdict ≡ Verdict.Accepted → (v ≡ Verdict.Accepted) × (answered v outcome ≡ outcome)
+unfolding answered
+answered-clear Verdict.Accepted outcome e = (refl, refl)
+answered-clear (Verdict.Refused r) outcome e = (e, cc)
+
 -- an area that is not refused has fields that a statement carries
 pub fields-kept : (found : Found) (area : Area) → uncarried found area ≡ false → not (known found) ≡ false → fieldsCarried area ≡ true
 fields-kept (Found.At i) area kept stands = go (fieldsCarried area) kept

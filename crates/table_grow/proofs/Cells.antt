@@ -1,10 +1,11 @@
 -- A T line read into 101 places: a line that is accepted has no more cells, so that its own verdict alone decides, and its cells are the front of the places.
-use Rattle.laws.proofs.{ℕ, _-_, _≤_, _≡_, refl, ap, _∙_, List, arith, ltb-false, le-ltb, ltb, length, take, drop, length-map}
+use Rattle.laws.proofs.{ℕ, _-_, _≤_, _≡_, refl, ap, _∙_, List, arith, le-ltb, ltb, length, take, drop}
 use lib.Seq.{take-at}
 use Rattle.refusals.specs.{Refusal, Verdict, weighed, bufferAfter}
 use Rattle.table.specs.{longestColumn}
-use Rattle.line_column.specs.{ReadColumn, cellsOf, columnRule, tenthsIn, tenthsAll, readable, columnRead}
-use Rattle.line_column.proofs.Laws.{few-cells, cells-many}
+use Rattle.line_cells.proofs.Laws.{cells-many}
+use Rattle.line_column.specs.{ReadColumn, cellsOf, readable, columnRead}
+use Rattle.line_column.proofs.Laws.{few-cells}
 use Rattle.line.specs.{fieldsOf, asColumn}
 use Rattle.line.proofs.Columns.{column-cases}
 use Rattle.table_grow.specs.{lineColumn, lineCells}

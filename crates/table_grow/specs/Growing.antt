@@ -3,7 +3,8 @@ use Rattle.laws.specs.{ℕ, List, leb, length, replicate}
 use Rattle.refusals.specs.{Verdict, weighed, bufferAfter, Refusal}
 use Rattle.table.specs.{longestTable}
 use Rattle.table_extend.specs.{begun, longer, extensible}
-use Rattle.line_column.specs.{cellsOf, columnOf, tenthsAll}
+use Rattle.line_cells.specs.{tenthsAll}
+use Rattle.line_column.specs.{cellsOf, columnOf}
 use Rattle.line.specs.{fieldsOf, asColumn}
 use Rattle.table_grow.specs.declared.Grown.{Grown}
 

@@ -6,8 +6,9 @@ use Rattle.laws.proofs.Order.{below-or-not}
 use Rattle.book_listing.specs.{linesOf, Run, next, printed, runFrom, printedFrom, closing, listFrom, longestBook, listingOf}
 use Rattle.book_listing.proofs.Lines.{lines-at, lines-none}
 use Rattle.book_listing.proofs.Folding.{listing-over, listing-lines}
-use Rattle.book_run.specs.{Reached, Part, runOf, linesFrom, mayRun, mayRunFrom}
-use Rattle.book_parts.specs.{nothingReached, partLines, closingAt, partFrom, partOf, ComesTo}
+use Rattle.book_reached.specs.{Reached, runOf, nothingReached, mayRun, mayRunFrom}
+use Rattle.book_run.specs.{Part, linesFrom}
+use Rattle.book_parts.specs.{partLines, closingAt, partFrom, partOf, ComesTo}
 use Rattle.book_parts.proofs.Parts.{begun, may-begin}
 use Rattle.theorem_parts.specs.{InParts, joinedParts}
 

@@ -1,7 +1,8 @@
 -- A book listed in parts, as `book` prints it.
 use Rattle.laws.specs.{ℕ, _≤_, List, [], _∷_, _++_, length}
 use Prim.Native.Nat.{_<_}
-use Rattle.book_run.specs.{Reached, Part}
+use Rattle.book_reached.specs.{Reached}
+use Rattle.book_run.specs.{Part}
 use Rattle.book_parts.specs.{partOf, ComesTo}
 
 -- the first from a place on, each further one from where the one before it came to, the last where no byte is left

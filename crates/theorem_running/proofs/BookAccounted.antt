@@ -8,13 +8,13 @@ use Rattle.line_entry.specs.{Entry, Parsed}
 use Rattle.line.specs.{entryOf}
 use Rattle.holding.specs.{Holding, emptyHolding}
 use Rattle.step_outcome.specs.{Outcome, placed}
+use Rattle.step_outcome.proofs.Laws.{answered-clear}
 use Rattle.step.specs.{applied}
 use Rattle.statement_format.specs.{statementOf}
 use Rattle.book_print.specs.{reportText, refusalText, endText}
-use Rattle.book_listing.specs.{linesOf, entryTaken, parsedTaken, lineTaken, entryTable, parsedTable, ifAccepted, Run, start, next, printed, runFrom, listFrom, longestBook, listingOf}
+use Rattle.book_listing.specs.{linesOf, columnTaken, entryTaken, parsedTaken, lineTaken, entryTable, parsedTable, ifAccepted, Run, start, next, printed, runFrom, listFrom, longestBook, listingOf}
 use Rattle.book_listing.proofs.Folding.{list-line, list-none}
 use Rattle.book_room.proofs.Runs.{RunKept, start-kept, next-kept}
-use Rattle.call_line.proofs.Sorts.{columnOutcome, accepted-column}
 use Rattle.call_book.proofs.Taken.{line-leaves, next-refused, next-accepted, printed-refused, printed-accepted}
 use Rattle.theorem_running.specs.{actsIn, RunAccounted, linesRun, actsFrom, reportsIn, BookAccounted}
 use Rattle.theorem_running.proofs.Standing.{column-first}
@@ -94,7 +94,7 @@ module _ (run : Run) (line : List ℕ) (lines : List (List ℕ)) where
           absurd (omega arith)
       accepted-follows (Parsed.Taken (Entry.Column column)) read =
           let taken = clear-entry (Entry.Column column) read in
-          entry-follows (Entry.Column column) read _ (columnOutcome holding) refl (accepted-column _ holding taken .1)
+          entry-follows (Entry.Column column) read _ (columnTaken (holding .count)) refl (answered-clear _ _ taken .1)
           (λ f. column-follows own holding _ _ _ _ _ (column-first holding own line column taken) f)
       accepted-follows (Parsed.Taken (Entry.On on)) read =
           let o = applied own schedule6 holding on in

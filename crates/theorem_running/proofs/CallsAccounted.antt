@@ -19,8 +19,9 @@ use Rattle.book_listing.specs.{entryTaken, parsedTaken, lineTaken}
 use Rattle.theorem_keeping.specs.{Kept}
 use Rattle.theorem_keeping.proofs.Keeping.{empty-kept}
 use Rattle.theorem_round_trips.proofs.Trips.{accepts-that}
-use Rattle.call_line.specs.{entryBytes, callBytes, withRoom, callVerdict, callWeighed}
-use Rattle.call_line.proofs.Smaller.{call-clear}
+use Rattle.call_output.specs.{withRoom}
+use Rattle.call_answer.specs.{entryBytes, callBytes, callVerdict, callWeighed}
+use Rattle.call_answer.proofs.Smaller.{call-clear}
 use Rattle.call_book.specs.{Caller, begin, reportIn, taken, afterCall, shownAfter}
 use Rattle.call_book.proofs.Split.{statement-split, report-split}
 use Rattle.line.proofs.Columns.{isColumn}

@@ -25,7 +25,8 @@ use Rattle.statement_parse.specs.{itemsFrom, subsFrom, subsAt, yearsAt, amounts
 use Rattle.statement.specs.{acceptable, readOf}
 use Rattle.book_print.specs.{changeText, reportText, pairText, refusalText, endText}
 use Rattle.book_listing.specs.{linesOf, entryTaken, parsedTaken, lineTaken, tableAfter, start, next, printedFor, printed, runFrom, printedFrom, listFrom, listingOf}
-use Rattle.call_line.specs.{tableVerdict, callVerdict, entryBytes, callBytes, withRoom, callWeighed, callAnswer, callOutput}
+use Rattle.call_output.specs.{withRoom}
+use Rattle.call_answer.specs.{tableVerdict, callVerdict, entryBytes, callBytes, callWeighed, callAnswer, callOutput}
 use Rattle.call_book.specs.{begin, isColumnLine, beforeReport, afterCall, shownAfter}
 use Rattle.theorem_running.specs.{sentFrom, reportsFrom, linesRun, actsFrom, ended, reportsIn}
 

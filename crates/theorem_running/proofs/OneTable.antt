@@ -3,7 +3,7 @@ use Rattle.laws.proofs.{ℕ, _≡_, refl, ap, _∙_, Bool, true, false, not, Li
 use lib.IntN.{ℤ, pos, negsuc}
 use Rattle.laws.specs.{every}
 use Rattle.laws.proofs.Lists.{and-left, and-right}
-use Rattle.call_line.specs.{callAnswer, callOutput}
+use Rattle.call_answer.specs.{callAnswer, callOutput}
 use Rattle.call_book.specs.{Caller, isColumnLine, taken, answered, afterCall}
 use Rattle.theorem_running.specs.{callerAfter}
 

@@ -7,6 +7,7 @@ use Rattle.line_entry.specs.{Act, AreaAct, Entry}
 use Rattle.holding.specs.{Area, Holding, Found, findArea}
 use Rattle.holding_look.specs.{known, lookedUp}
 use Rattle.step_outcome.specs.{Report, accepted, answered, areaCases, placedAt, placed}
+use Rattle.step_outcome.proofs.Laws.{answered-clear}
 use Rattle.step_open.specs.{opened}
 use Rattle.step_add.specs.{addCases, added}
 use Rattle.step_clear.specs.{clearCases, cleared}
@@ -16,7 +17,6 @@ use Rattle.step_withdraw.specs.{withdrawCases, withdrawn}
 use Rattle.step.specs.{acted, applied}
 use Rattle.table_grow.specs.{growable}
 use Rattle.book_listing.specs.{entryTaken}
-use Rattle.call_line.proofs.Sorts.{accepted-column}
 use Rattle.theorem_keeping.proofs.Tests.{clash}
 use Rattle.theorem_keeping.proofs.Areas.{areaNumber}
 use Rattle.theorem_keeping.proofs.Register.{found-inside}
@@ -60,4 +60,4 @@ module _ (holding : Holding) where
   pub column-first : (own line : List ℕ) (column : ℕ) → entryTaken own holding line (Entry.Column column) .verdict ≡ Verdict.Accepted → holding .count ≡ 0
   unfolding entryTaken growable
   column-first own line column e =
-      let none = leb-false 1 (holding .count) (clear-last _ (leb 1 (holding .count)) Refusal.TableAfterArea (accepted-column _ holding e .0)) in omega arith
+      let none = leb-false 1 (holding .count) (clear-last _ (leb 1 (holding .count)) Refusal.TableAfterArea (answered-clear _ _ e .0)) in omega arith

@@ -4,7 +4,7 @@ use Rattle.laws.specs.{ℕ, List, [], _∷_, _++_, length, ℤ, pos, negsuc}
 use Rattle.table_bytes.specs.{numbersOf}
 use Rattle.line_entry.specs.{AreaAct}
 use Rattle.line.specs.{entryOf}
-use Rattle.call_line.specs.{callAnswer}
+use Rattle.call_answer.specs.{callAnswer}
 use Rattle.call_book.specs.{Caller, begin, afterCall, shownAfter}
 use Rattle.theorem_running.specs.Running.{actsIn, RunAccounted}
 

@@ -3,9 +3,9 @@ use Rattle.laws.proofs.{subst, needs}
 use Rattle.text.proofs.Writes.{wrote-then, wrote-as}
 use Rattle.book_listing.specs.{longestBook}
 use Rattle.book_listing.proofs.Folding.{listing-over}
-use Rattle.book_run.specs.{Reached, mayRunFrom, RunsIf}
+use Rattle.book_reached.specs.{Reached, nothingReached, mayRunFrom}
+use Rattle.book_run.specs.{RunsIf}
 use Rattle.book_run.proofs.Runs.{run-of}
-use Rattle.book_parts.specs.{nothingReached}
 use Rattle.book_parts.proofs.Parts.{may-begin, listing-whole}
 use Rattle.book_parts.proofs.put_listing.Tie as tie
 

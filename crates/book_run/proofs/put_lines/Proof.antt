@@ -15,9 +15,12 @@ use Rattle.book_print.specs.{reportWidth}
 use Rattle.book_listing.specs.{Run, runFrom, printedFrom, longestBook}
 use Rattle.book_listing.proofs.Folding.{from-line, run-line, left-line, from-none, run-none}
 use Rattle.book_find.specs.{numbersIn}
-use Rattle.book_run.specs.{Part, linesFrom, mayRunFrom, RunOf}
+use Rattle.book_reached.specs.{mayRunFrom}
+use Rattle.book_reached.proofs.Bounds.{Bounds, bounds, may}
+use Rattle.book_turn.proofs.Left.{turn-leaves}
+use Rattle.book_run.specs.{Part, linesFrom, RunOf}
 use Rattle.book_run.proofs.Following.{placed-long, turn-prints, turn-runs}
-use Rattle.book_run.proofs.Runs.{Bounds, bounds, may, goes-on, stopped, runs, runs-not}
+use Rattle.book_run.proofs.Runs.{goes-on, stopped, runs, runs-not}
 use Rattle.book_run.proofs.put_lines.Tie as tie
 
 -- what is carried from line to line
@@ -131,10 +134,6 @@ numbered c =
     (⊎-elim (λ a. simp (a .6, a .5, i)) (λ a. simp (a .3, a .2, i)))
     (c .match2 .came)
 
--- the line is taken as it was read
-as-read : tie.Need-take-line-requires Inv-loop μ-loop
-as-read c κs = let k = c .before .before .before .before in let l = loopOf k .loop in (l .inv .0 .table, l .inv .1, k .before .before .before .before .parse .ensures)
-
 add-i : tie.Need-add-i Inv-loop μ-loop
 add-i c = let e = endOf (lookedOf c) in omega (arith, ended e, e .before .before .loop .inv .0 .book)
 
@@ -155,26 +154,27 @@ loop-again c =
     let book = bookOf l in
     let line = take (e .end-of .result - l .loop .i) (drop (l .loop .i) book) in
     let turn = t .take-line .ensures in
+    let leaves = turn-leaves (l .loop .table) (l .loop .count) (l .loop .inv .0 .table) (l .loop .inv .1) _ _ line _ (t .take-line .result) _ _ (turn .0) (turn .1 .0) (turn .1 .1) in
     let read = k .before .before .before .before .parse .ensures in
     let names = k .before .before .find .ensures in
     let found = looks k .0 in
     let area = looks k .1 ∙ ap (areaAt _) (sym (looks k .0)) in
     let six = l .before .before .before .before .schedule-six .ensures in
     let runs =
-    turn-runs (runAt l) (l .loop .numbers) (l .loop .inv .7) line _ _ _ _ _ _ _ (t .take-line .result) turn read names found area six _ _ _ (counts .result)
+    turn-runs (runAt l) (l .loop .numbers) (l .loop .inv .7) line _ _ _ _ _ (t .take-line .result) (turn .0) read names found area six _ _ leaves _ _ _ (counts .result)
     (stands c) (counts .ensures .0) refl refl in
-    let prints = turn-prints (runAt l) (l .loop .numbers) (l .loop .inv .7) line _ _ _ _ _ _ _ (t .take-line .result) turn read names found area six in
+    let prints = turn-prints (runAt l) (l .loop .numbers) (l .loop .inv .7) line _ _ _ _ _ (t .take-line .result) (turn .0) read names found area six in
     let inside = turns e .0 in
     let some = turns e .1 in
     let b = l .loop .inv .0 in (
       record {
         book = b .book;
         place = omega (arith, ended e, b .book);
-        table = turn .leaves .fits;
+        table = leaves .fits;
         some = omega (arith, ended e, counts .ensures .1, b .some);
         others = omega (arith, ended e, counts .ensures .1, b .others);
       },
-      turn .leaves .whole,
+      leaves .whole,
       ap (λ (h : Holding). length (h .areas)) (stands c) ∙ placed-long _ _ ∙ l .loop .inv .2,
       wrote-length (put .wrote) ∙ l .loop .inv .3,
       λ o p w.
@@ -226,7 +226,7 @@ put-lines-spec = tie.close (tie.spec Inv-loop μ-loop (λ c κs. search needs) r
     (λ c κs. search needs) (λ c. search needs) (λ c. omega arith)
     (λ c. omega (arith, c .if2 .taken, c .before .before .before .before .before .before .before .before .before .before .before .loop .inv .2))
     (λ c. search needs) (λ c. search needs) (λ c. omega (arith, ended (endOf (c .before .before .before))))
-    (λ c. omega (arith, ended (endOf (c .before .before .before)))) (λ c. omega (arith, ended (endOf (c .before .before .before)))) as-read
+    (λ c. omega (arith, ended (endOf (c .before .before .before)))) (λ c. omega (arith, ended (endOf (c .before .before .before)))) (λ c κs. search needs)
     (λ c. omega (arith, few (c .before .before .before .before .before .before))) (λ c. omega (arith, few (c .before .before .before .before .before .before)))
     (λ c κs. search needs) (λ c κs. search needs)
     (λ c. omega (arith, c .counted .ensures .1, few (c .before .before .before .before .before .before .before .before .before .before)))

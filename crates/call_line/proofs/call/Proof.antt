@@ -3,8 +3,9 @@ use Rattle.laws.proofs.{sym, ap, _∙_, arith, needs}
 use Rattle.line_entry.specs.{Parsed}
 use Rattle.line.proofs.Columns.{column-named}
 use Rattle.call_line.specs.{refusedBy}
-use Rattle.call_line.proofs.Order.{line-decides, table-decides}
-use Rattle.call_line.proofs.Given.{call-refused, call-by, call-step, table-refused, table-read, no-table}
+use Rattle.call_answer.proofs.Order.{line-decides, table-decides}
+use Rattle.call_line.proofs.TableRead.{table-refused, table-read, no-table}
+use Rattle.call_line.proofs.Given.{call-refused, call-by, call-step}
 use Rattle.call_line.proofs.call.Statement.{statement}
 use Rattle.call_line.proofs.call.Tie as tie
 

@@ -1,6 +1,6 @@
 -- `call_line::read_table` meets its contract: what was decoded stands in front, and is judged.
 use Rattle.laws.proofs.{arith, needs}
-use Rattle.call_line.proofs.Given.{decoded-as, undecoded, decoded-few, judged-refused, judged-clear}
+use Rattle.call_line.proofs.TableRead.{decoded-as, undecoded, decoded-few, judged-refused, judged-clear}
 use Rattle.call_line.proofs.read_table.Tie as tie
 
 part-judge-end : tie.Need-part-judge-end

@@ -4,8 +4,10 @@ use Rattle.laws.proofs.{refl, sym, _∙_, replicate, arith, needs}
 use Rattle.line.proofs.Columns.{column-refused, column-entered}
 use Rattle.table_grow.specs.{lineCells}
 use Rattle.table_grow.proofs.Cells.{Room, read-verdict, read-number, read-few, read-cells}
-use Rattle.call_line.proofs.Order.{line-decides, table-decides}
-use Rattle.call_line.proofs.Given.{gives-refused, table-refused, table-read, no-table, call-column}
+use Rattle.call_answer.proofs.Order.{line-decides, table-decides}
+use Rattle.call_output.proofs.Given.{gives-refused}
+use Rattle.call_line.proofs.TableRead.{table-refused, table-read, no-table}
+use Rattle.call_line.proofs.Given.{call-column}
 use Rattle.call_line.proofs.take_column.Statement.{statement}
 use Rattle.call_line.proofs.take_column.Tie as tie
 

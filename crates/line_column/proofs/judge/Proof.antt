@@ -4,7 +4,8 @@ use Rattle.text_field.proofs.Laws.{count-found}
 use Rattle.refusals.specs.{weighAll, smallest}
 use Rattle.line_entry.specs.{letterIn}
 use Rattle.line_entry.proofs.Laws.{found}
-use Rattle.line_column.specs.{cellsFound, columnRule}
+use Rattle.line_cells.specs.{cellsFound}
+use Rattle.line_column.specs.{columnRule}
 use Rattle.line_column.proofs.Laws.{counted}
 use Rattle.line_column.proofs.judge.Tie as tie
 

@@ -1,0 +1,4 @@
+pub mod Smaller
+pub mod Ranged
+pub mod Tables
+pub mod Order

@@ -1,0 +1,1 @@
+// What a call answers and writes, and the order of its parts. No code.

@@ -1,0 +1,3 @@
+pub mod Cells
+pub use Cells.{verdictIn, countIn}
+unfoldable pub use Cells.{cellsVerdict}

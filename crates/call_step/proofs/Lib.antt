@@ -1,0 +1,3 @@
+pub mod Placed
+pub mod Bridge
+pub mod Acts

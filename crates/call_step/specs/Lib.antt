@@ -1,0 +1,2 @@
+pub mod Acts
+unfoldable pub use Acts.{stepOutcome, stepVerdict, stepBytes}
