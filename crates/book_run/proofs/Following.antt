@@ -10,8 +10,9 @@ use Rattle.holding_look.proofs.Laws.{looked-as}
 use Rattle.step_outcome.specs.{Outcome, placedAt, placed}
 use Rattle.book_listing.specs.{parsedTaken, lineTaken, parsedTable, ifAccepted, tableAfter, Run, next, printedFor, printed}
 use Rattle.book_find.specs.{Named, numbersIn, namedBy}
-use Rattle.book_turn.specs.{parsedOutcome}
-use Rattle.book_turn.proofs.Left.{Fronts, turn-taken}
+use Rattle.book_column.specs.{Fronts}
+use Rattle.book_run.specs.{parsedOutcome}
+use Rattle.book_run.proofs.Turns.{turn-taken}
 
 -- a step leaves as many places for areas as there were
 pub placed-long : (holding : Holding) (outcome : Outcome) → length (placed holding outcome .areas) ≡ length (holding .areas)

@@ -1,11 +1,57 @@
 // Runs the lines of a book, on one holding and one table, and puts what each prints.
 ghost use mathlib.Core.Path.{_≡_};
+ghost use Prim.Native.Nat.{_≤_};
+ghost use lib.ListN.{length, take};
+ghost use Rattle.table.specs.{longestTable};
 ghost use Rattle.book_reached.specs.{mayRunFrom};
-ghost use Rattle.book_run.specs.{RunsIf};
+ghost use Rattle.book_run.specs.{refusalIn, Turn, RunsIf};
 use book_reached::Reached;
 use holding::Found;
 use holding::MOST_AREAS;
 use holding_look::Looked;
+use line_entry::Entry;
+use line_entry::Parsed;
+use refusals::Refusal;
+use step_outcome::Outcome;
+use table::LONGEST_TABLE;
+
+// Why a line is no entry.
+fn refusal_in(parsed: Parsed) -> Refusal
+    ensures { λ r. ⌜ r ≡ refusalIn parsed ⌝ }
+{
+    match parsed {
+        Parsed::Refused(refusal) => refusal,
+        Parsed::Taken(_) => Refusal::Form,
+    }
+}
+
+// What a line comes to, as it was read, on the area that was looked up for it. An accepted T line leaves the longer table, and any other line leaves the
+// table as it was.
+fn take_line(
+    table: &mut [u16; LONGEST_TABLE],
+    count: &mut usize,
+    default: &[u16],
+    looked: Looked,
+    line: &[u8],
+    parsed: Parsed,
+) -> Outcome
+    requires { ⌜ (now count ≤ longestTable) × (length (now table) ≡ longestTable) ⌝ }
+    ensures { λ r. ⌜ Turn (take (now (count .entry)) (now (table .entry))) (now (default .entry)) looked (now (line .entry)) parsed r (now (table .exit)) (now (count .exit)) ⌝ }
+{
+    let Parsed::Taken(entry) = parsed else {
+        return step_outcome::turned(refusal_in(parsed));
+    };
+    match entry {
+        Entry::Column { column: _ } => {
+            book_column::take_column(table, count, looked.count, line)
+        }
+        Entry::On(on) => {
+            let own = &table[..];
+            let act = on.act;
+            step::apply_to(&own[0..*count], default, looked, act)
+        }
+    }
+}
 
 // What lines that are run come to: how many bytes were put, the place in the book of the line that comes next, and what the lines before it have come to.
 pub struct Part {
@@ -59,7 +105,7 @@ pub fn put_lines(book: &[u8], next: usize, reached: Reached, most: usize, out: &
             found,
             area: named,
         };
-        let outcome = book_turn::take_line(
+        let outcome = take_line(
             &mut table,
             &mut count,
             &default,

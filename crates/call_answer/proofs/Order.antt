@@ -80,10 +80,13 @@ read-by : (v : Verdict) (holding : Holding) → readIf v holding .verdict ≡ v
 read-by Verdict.Accepted holding = refl
 read-by (Verdict.Refused r) holding = refl
 
-read-from-six : (statement : List ℕ) → From 6 (readOf statement .verdict)
+pub read-from-eleven : (statement : List ℕ) → From 11 (readOf statement .verdict)
 unfolding readOf acceptable startsAt
-read-from-six statement =
-    rw (read-by (acceptable statement (holdingAt statement)) (holdingAt statement .holding)) (starts-from 6 _ refl)
+read-from-eleven statement =
+    rw (read-by (acceptable statement (holdingAt statement)) (holdingAt statement .holding)) (starts-from 11 _ refl)
+
+read-from : (statement : List ℕ) (n : ℕ) → n ≤ 6 → From n (readOf statement .verdict)
+read-from statement n h = from-less n 11 (readOf statement .verdict) (omega arith) (read-from-eleven statement)
 
 -- ---- the state: an entry that was read
 
@@ -127,7 +130,7 @@ module _ (statement table line : List ℕ) where
       rw e
       (first-of-four r (tableVerdict table) (readOf statement .verdict)
       (from-less n 6 (tableVerdict table) few (table-from-six table))
-      (from-less n 6 (readOf statement .verdict) few (read-from-six statement)))
+      (read-from statement n few))
 
   module _ (entry : Entry) (read : entryOf line ≡ Parsed.Taken entry) where
     pub table-decides : (r : Refusal) → tableVerdict table ≡ Verdict.Refused r → callVerdict statement table line ≡ Verdict.Refused r
@@ -138,13 +141,13 @@ module _ (statement table line : List ℕ) where
         let state = entryTaken (numbersOf table) holding line entry .verdict in
         rw (read, e, six)
         (smaller-first Refusal.TableColumn (smaller (readOf statement .verdict) state)
-        (smaller-from 6 (readOf statement .verdict) state (read-from-six statement)
+        (smaller-from 6 (readOf statement .verdict) state (read-from statement 6 (omega arith))
         (entry-from-six (numbersOf table) holding line entry read (entry-ranged line entry read))))
 
-    pub entry-decides : tableVerdict table ≡ Verdict.Accepted
-        → callVerdict statement table line ≡ smaller (readOf statement .verdict) (entryTaken (numbersOf table) (readOf statement .holding) line entry .verdict)
+    pub entry-weighed : callVerdict statement table line
+        ≡ smaller (tableVerdict table) (smaller (readOf statement .verdict) (entryTaken (numbersOf table) (readOf statement .holding) line entry .verdict))
     unfolding callVerdict lineTaken parsedTaken
-    entry-decides e = rw (read, e)
+    entry-weighed = rw read
 
     pub entry-writes : callBytes statement table line ≡ entryBytes (numbersOf table) (readOf statement .holding) line entry
     unfolding callBytes

@@ -2,12 +2,10 @@
 ghost use mathlib.Core.Path.{_≡_};
 ghost use lib.ListN.{length};
 ghost use mathlib.Core.Bool.{true};
-ghost use Rattle.refusals.specs.{written, bufferAfter};
+ghost use Rattle.refusals.specs.{written};
 ghost use Rattle.line.specs.{isColumnLine};
-ghost use Rattle.table.specs.{longestTable};
-ghost use Rattle.table_bytes.specs.{numbersOf, decodable};
 ghost use Rattle.call_output.specs.{Gives};
-ghost use Rattle.call_answer.specs.{tableVerdict, callVerdict, callBytes, callWeighed, callOutput};
+ghost use Rattle.call_answer.specs.{callVerdict, callBytes, callWeighed, callOutput};
 ghost use Rattle.call_line.specs.{refusedBy};
 use line_entry::Entry;
 use line_entry::Parsed;
@@ -28,26 +26,7 @@ fn refused_by(parsed: Parsed) -> Written
     }
 }
 
-// A table's numbers to the front of `numbers`: how many, or why it is no table.
-fn read_table(table: &[u8], numbers: &mut [u16]) -> Written
-    requires { ⌜ length (now numbers) ≡ longestTable ⌝ }
-    ensures { λ r. ⌜ r ≡ written (tableVerdict (now (table .entry))) (numbersOf (now (table .entry))) ⌝ }
-    ensures { λ _. ⌜ now (numbers .exit) ≡ bufferAfter (decodable (now (table .entry)) longestTable) (numbersOf (now (table .entry))) (now (numbers .entry)) ⌝ }
-{
-    let decoded = table_bytes::decode(table, numbers);
-    match decoded {
-        Written::Refused(refusal) => Written::Refused(refusal),
-        Written::Count(count) => {
-            let v = table::judge(&numbers[0..count]);
-            match v {
-                Verdict::Refused(refusal) => Written::Refused(refusal),
-                Verdict::Accepted => Written::Count(count),
-            }
-        }
-    }
-}
-
-// A T line: the table longer by its column. It is judged where its cells are read.
+// A T line: the table longer by its column. It is judged where its cells are read, and the table where it is extended.
 fn take_column(statement: &[u8], table: &[u8], line: &[u8], out: &mut [u8]) -> Written
     requires { ⌜ isColumnLine (now line) ≡ true ⌝ }
     ensures { λ r. ⌜ Gives (callVerdict (now (statement .entry)) (now (table .entry)) (now (line .entry))) (callBytes (now (statement .entry)) (now (table .entry)) (now (line .entry))) (now (out .entry)) r (now (out .exit)) ⌝ }
@@ -71,7 +50,7 @@ fn take_column(statement: &[u8], table: &[u8], line: &[u8], out: &mut [u8]) -> W
                 );
             }
             let mut numbers = [0u16; LONGEST_TABLE];
-            let own = read_table(table, &mut numbers);
+            let own = table_bytes::decode(table, &mut numbers);
             match own {
                 Written::Refused(refusal) => Written::Refused(refusal),
                 Written::Count(count) => {
@@ -89,7 +68,7 @@ fn take_column(statement: &[u8], table: &[u8], line: &[u8], out: &mut [u8]) -> W
 }
 
 // Takes a line by a statement and a table, and writes to the front of `out` what they become: how many bytes, or why nothing is written. Room for a
-// table is laid out only where there is one.
+// table is laid out only where there is one; it is judged with the act or the column that it serves.
 pub fn call(statement: &[u8], table: &[u8], line: &[u8], out: &mut [u8]) -> Written
     ensures { λ r. ⌜ r ≡ written (callWeighed (now (statement .entry)) (now (table .entry)) (now (line .entry)) (length (now (out .entry)))) (callBytes (now (statement .entry)) (now (table .entry)) (now (line .entry))) ⌝ }
     ensures { λ _. ⌜ now (out .exit) ≡ callOutput (now (statement .entry)) (now (table .entry)) (now (line .entry)) (now (out .entry)) ⌝ }
@@ -110,7 +89,7 @@ pub fn call(statement: &[u8], table: &[u8], line: &[u8], out: &mut [u8]) -> Writ
         return call_step::take_step(statement, &none[0..0], on, out);
     }
     let mut numbers = [0u16; LONGEST_TABLE];
-    let own = read_table(table, &mut numbers);
+    let own = table_bytes::decode(table, &mut numbers);
     match own {
         Written::Refused(refusal) => Written::Refused(refusal),
         Written::Count(count) => call_step::take_step(statement, &numbers[0..count], on, out),

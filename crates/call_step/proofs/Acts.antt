@@ -1,8 +1,10 @@
--- The pass over the statement and the step on the area looked up give the verdict of the act, and the bytes that are written are the statement after it.
+-- The table judged, the pass over the statement and the step on the area looked up give the verdict of the act, and the bytes that are written are the
+-- statement after it.
 use Rattle.laws.proofs.{ℕ, _-_, _≤_, _≡_, refl, sym, ap, _∙_, List, _++_, arith, length, take, drop, length-drop, take-all}
 use Rattle.refusals.specs.{Verdict, smaller}
 use Rattle.refusals.proofs.Smaller.{smaller-clear}
 use Rattle.schedules.specs.{schedule6}
+use Rattle.table.specs.{judged}
 use Rattle.line_entry.specs.{AreaAct}
 use Rattle.holding.specs.{Holding, findArea}
 use Rattle.holding_look.specs.{lookedUp}
@@ -16,8 +18,9 @@ use Rattle.call_step.specs.{stepOutcome, stepVerdict, stepBytes}
 use Rattle.call_step.proofs.Placed.{acted-places}
 use Rattle.call_step.proofs.Bridge.{places-in, changed-statement}
 
-module _ (own statement : List ℕ) (on : AreaAct) (passed : Passed) (outcome : Outcome) (v : Verdict) (p : passed ≡ passedOver statement (on .area))
-    (o : outcome ≡ acted own schedule6 (passed .looked) (on .act)) (w : v ≡ smaller (passed .verdict) (outcome .verdict)) where
+module _ (own statement : List ℕ) (on : AreaAct) (passed : Passed) (outcome : Outcome) (stated table v : Verdict) (p : passed ≡ passedOver statement (on .area))
+    (o : outcome ≡ acted own schedule6 (passed .looked) (on .act)) (s : stated ≡ smaller (passed .verdict) (outcome .verdict)) (t : table ≡ judged own)
+    (w : v ≡ smaller table stated) where
   abbrev carries : Holding
   carries = readOf statement .holding
 
@@ -32,12 +35,14 @@ module _ (own statement : List ℕ) (on : AreaAct) (passed : Passed) (outcome : 
   pub step-weighed : v ≡ stepVerdict own statement on
   unfolding stepVerdict
   step-weighed =
-      w ∙ ap (λ (x : Verdict). smaller x (outcome .verdict)) verdict-is
-      ∙ ap (λ (x : Outcome). smaller (readOf statement .verdict) (x .verdict)) outcome-is
+      w ∙ ap (λ (x : Verdict). smaller x stated) t
+      ∙ ap (smaller (judged own))
+      (s ∙ ap (λ (x : Verdict). smaller x (outcome .verdict)) verdict-is
+      ∙ ap (λ (x : Outcome). smaller (readOf statement .verdict) (x .verdict)) outcome-is)
 
   module _ (e : v ≡ Verdict.Accepted) where
     both-clear : (passed .verdict ≡ Verdict.Accepted) × (outcome .verdict ≡ Verdict.Accepted)
-    both-clear = smaller-clear (passed .verdict) (outcome .verdict) (sym w ∙ e)
+    both-clear = smaller-clear (passed .verdict) (outcome .verdict) (sym s ∙ smaller-clear table stated (sym w ∙ e) .1)
 
     is-read : readOf statement .verdict ≡ Verdict.Accepted
     is-read = sym verdict-is ∙ both-clear .0

@@ -1,4 +1,4 @@
-// A call's act on an area: a step of the holding that the statement carries, and the statement after it.
+// A call's act on an area: a step of the holding that the statement carries, under a table's numbers, and the statement after it.
 ghost use mathlib.Core.Path.{_≡_};
 ghost use Rattle.call_output.specs.{Gives};
 ghost use Rattle.call_step.specs.{stepVerdict, stepBytes};
@@ -6,8 +6,8 @@ use line_entry::AreaAct;
 use refusals::Verdict;
 use refusals::Written;
 
-// Takes an act by a statement and a table's numbers, and writes to the front of `out` the statement after it, with its report: how many bytes, or why
-// nothing is written.
+// Takes an act by a statement and a participant's table, which is judged, and writes to the front of `out` the statement after it, with its report: how
+// many bytes, or why nothing is written.
 pub fn take_step(statement: &[u8], own: &[u16], on: AreaAct, out: &mut [u8]) -> Written
     ensures { λ r. ⌜ Gives (stepVerdict (now (own .entry)) (now (statement .entry)) on) (stepBytes (now (own .entry)) (now (statement .entry)) on) (now (out .entry)) r (now (out .exit)) ⌝ }
 {
@@ -17,7 +17,9 @@ pub fn take_step(statement: &[u8], own: &[u16], on: AreaAct, out: &mut [u8]) -> 
     let act = on.act;
     let outcome = step::act_on(own, looked, act);
     let step_verdict = outcome.verdict;
-    let v = refusals::least(read_verdict, step_verdict);
+    let stated_verdict = refusals::least(read_verdict, step_verdict);
+    let table_verdict = table::judge(own);
+    let v = refusals::least(table_verdict, stated_verdict);
     match v {
         Verdict::Refused(refusal) => Written::Refused(refusal),
         Verdict::Accepted => {

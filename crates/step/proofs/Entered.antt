@@ -1,8 +1,9 @@
 -- A step entered: what was called is what the step is made of; and under a list that is a table it is the act, under any other it is turned back.
 use Rattle.laws.proofs.{ℕ, _≤_, Bool, true, false, cond, not, _≡_, refl, sym, ap, subst, _∙_, List, arith, leb, leb-false}
-use Rattle.refusals.specs.{Refusal, Verdict, numberOf, weighed, weighAll, smallest, smaller}
+use Rattle.refusals.specs.{Refusal, Verdict, numberOf, weighed, smaller}
 use Rattle.schedules.specs.{schedule6}
 use Rattle.table.specs.{isTable, judged}
+use Rattle.table.proofs.Judged.{judged-by}
 use Rattle.line_entry.specs.{Act, AreaAct}
 use Rattle.holding.specs.{Holding}
 use Rattle.holding_look.specs.{Looked, lookedUp}
@@ -50,24 +51,20 @@ acted-again own default looked (Act.File last) = answered-again _ _ refl
 acted-again own default looked Act.Withdraw = answered-again _ _ refl
 
 module _ (own : List ℕ) (holding : Holding) (on : AreaAct) where
-  by-table : (t : Bool) → isTable own ≡ t → judged own ≡ weighed Verdict.Accepted (not t) Refusal.TableColumn
-  unfolding judged smallest weighAll
-  by-table t e = ap (λ (b : Bool). weighed Verdict.Accepted (not b) Refusal.TableColumn) e
-
   -- under a table a step is the act
   pub step-is : isTable own ≡ true → applied own schedule6 holding on ≡ stepped own holding on
   unfolding stepped weighed applied
   step-is e =
       let outcome = applied own schedule6 holding on in
       sym (acted-again own schedule6 (lookedUp holding (on .area)) (on .act))
-      ∙ ap (λ (x : Verdict). answered (smaller x (outcome .verdict)) outcome) (sym (by-table true e))
+      ∙ ap (λ (x : Verdict). answered (smaller x (outcome .verdict)) outcome) (sym (judged-by own true e))
 
   -- under any other list it is turned back, by 6 or a smaller number
   pub step-turned : (P : Outcome → Type 0) → isTable own ≡ false → ((r : Refusal) → numberOf r ≤ 6 → P (turnedBack r)) → P (stepped own holding on)
   unfolding stepped weighed answered
   step-turned P e turned =
       let outcome = applied own schedule6 holding on in
-      subst (λ (x : Verdict). P (answered (smaller x (outcome .verdict)) outcome)) (sym (by-table false e)) (by-verdict (outcome .verdict) outcome)
+      subst (λ (x : Verdict). P (answered (smaller x (outcome .verdict)) outcome)) (sym (judged-by own false e)) (by-verdict (outcome .verdict) outcome)
     where
       of-two : (b : Bool) (r : Refusal) (outcome : Outcome) → leb 6 (numberOf r) ≡ b
           → P (answered (cond b (Verdict.Refused Refusal.TableColumn) (Verdict.Refused r)) outcome)

@@ -17,7 +17,6 @@ use Rattle.book_listing.proofs.Folding.{from-line, run-line, left-line, from-no
 use Rattle.book_find.specs.{numbersIn}
 use Rattle.book_reached.specs.{mayRunFrom}
 use Rattle.book_reached.proofs.Bounds.{Bounds, bounds, may}
-use Rattle.book_turn.proofs.Left.{turn-leaves}
 use Rattle.book_run.specs.{Part, linesFrom, RunOf}
 use Rattle.book_run.proofs.Following.{placed-long, turn-prints, turn-runs}
 use Rattle.book_run.proofs.Runs.{goes-on, stopped, runs, runs-not}
@@ -134,6 +133,9 @@ numbered c =
     (⊎-elim (λ a. simp (a .6, a .5, i)) (λ a. simp (a .3, a .2, i)))
     (c .match2 .came)
 
+table-stands : tie.Need-take-line-requires Inv-loop μ-loop
+table-stands c κs = let l = loopOf (c .before .before .before .before) .loop in (l .inv .0 .table, l .inv .1)
+
 add-i : tie.Need-add-i Inv-loop μ-loop
 add-i c = let e = endOf (lookedOf c) in omega (arith, ended e, e .before .before .loop .inv .0 .book)
 
@@ -154,16 +156,16 @@ loop-again c =
     let book = bookOf l in
     let line = take (e .end-of .result - l .loop .i) (drop (l .loop .i) book) in
     let turn = t .take-line .ensures in
-    let leaves = turn-leaves (l .loop .table) (l .loop .count) (l .loop .inv .0 .table) (l .loop .inv .1) _ _ line _ (t .take-line .result) _ _ (turn .0) (turn .1 .0) (turn .1 .1) in
+    let leaves = turn .leaves in
     let read = k .before .before .before .before .parse .ensures in
     let names = k .before .before .find .ensures in
     let found = looks k .0 in
     let area = looks k .1 ∙ ap (areaAt _) (sym (looks k .0)) in
     let six = l .before .before .before .before .schedule-six .ensures in
     let runs =
-    turn-runs (runAt l) (l .loop .numbers) (l .loop .inv .7) line _ _ _ _ _ (t .take-line .result) (turn .0) read names found area six _ _ leaves _ _ _ (counts .result)
+    turn-runs (runAt l) (l .loop .numbers) (l .loop .inv .7) line _ _ _ _ _ (t .take-line .result) (turn .comes) read names found area six _ _ leaves _ _ _ (counts .result)
     (stands c) (counts .ensures .0) refl refl in
-    let prints = turn-prints (runAt l) (l .loop .numbers) (l .loop .inv .7) line _ _ _ _ _ (t .take-line .result) (turn .0) read names found area six in
+    let prints = turn-prints (runAt l) (l .loop .numbers) (l .loop .inv .7) line _ _ _ _ _ (t .take-line .result) (turn .comes) read names found area six in
     let inside = turns e .0 in
     let some = turns e .1 in
     let b = l .loop .inv .0 in (
@@ -226,7 +228,7 @@ put-lines-spec = tie.close (tie.spec Inv-loop μ-loop (λ c κs. search needs) r
     (λ c κs. search needs) (λ c. search needs) (λ c. omega arith)
     (λ c. omega (arith, c .if2 .taken, c .before .before .before .before .before .before .before .before .before .before .before .loop .inv .2))
     (λ c. search needs) (λ c. search needs) (λ c. omega (arith, ended (endOf (c .before .before .before))))
-    (λ c. omega (arith, ended (endOf (c .before .before .before)))) (λ c. omega (arith, ended (endOf (c .before .before .before)))) (λ c κs. search needs)
+    (λ c. omega (arith, ended (endOf (c .before .before .before)))) (λ c. omega (arith, ended (endOf (c .before .before .before)))) table-stands
     (λ c. omega (arith, few (c .before .before .before .before .before .before))) (λ c. omega (arith, few (c .before .before .before .before .before .before)))
     (λ c κs. search needs) (λ c κs. search needs)
     (λ c. omega (arith, c .counted .ensures .1, few (c .before .before .before .before .before .before .before .before .before .before)))

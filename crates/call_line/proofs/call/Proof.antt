@@ -1,10 +1,11 @@
--- `call_line::call` meets its contract: a T line by itself; of any other, a refused line decides, then a refused table, and then the act.
-use Rattle.laws.proofs.{sym, ap, _∙_, arith, needs}
+-- `call_line::call` meets its contract: a T line by itself; of any other, a refused line decides, then bytes that are no numbers, and then the act.
+use Rattle.laws.proofs.{ℕ, sym, ap, _∙_, replicate, length-replicate, arith, needs}
+use Rattle.table.specs.{longestTable}
 use Rattle.line_entry.specs.{Parsed}
 use Rattle.line.proofs.Columns.{column-named}
 use Rattle.call_line.specs.{refusedBy}
 use Rattle.call_answer.proofs.Order.{line-decides, table-decides}
-use Rattle.call_line.proofs.TableRead.{table-refused, table-read, no-table}
+use Rattle.call_line.proofs.TableRead.{no-table, table-refused, table-few, table-lent}
 use Rattle.call_line.proofs.Given.{call-refused, call-by, call-step}
 use Rattle.call_line.proofs.call.Statement.{statement}
 use Rattle.call_line.proofs.call.Tie as tie
@@ -48,13 +49,13 @@ returns-4 c =
     let none = no-table (a .table .now) (i .if2 .taken) in
     call-by (a .statement .now) (a .table .now) (a .line .now) (a .out .now) _ _
     (call-step (a .statement .now) (a .table .now) (a .line .now) (a .out .now) _ _ _ _
-    (sym (p .parse .ensures) ∙ r .parsed .given .1 ∙ ap Parsed.Taken (e .entry .given .1)) (none .0) (none .1) (w .take-step .ensures))
+    (sym (p .parse .ensures) ∙ r .parsed .given .1 ∙ ap Parsed.Taken (e .entry .given .1)) none (w .take-step .ensures))
 
 part-take-step-end-2 : tie.Need-part-take-step-end-2
 part-take-step-end-2 c =
     let t = c .before .before .before .before .before in
     let a = t .before .before .before .before .before .before .before .before .before .before .before .before .before .before .before .before .args in
-    omega (arith, table-read (a .table .now) _ _ (t .read-table .ensures .0) (c .before .before .own2 .given .1) .few)
+    omega (arith, table-few (a .table .now) (replicate longestTable 0) _ _ (length-replicate {A = ℕ} longestTable 0) (t .decode .ensures .0) (t .decode .ensures .1) _ (c .before .before .own2 .given .1))
 
 returns-5 : tie.Need-returns-5
 returns-5 c =
@@ -65,7 +66,7 @@ returns-5 c =
     let a = p .before .before .before .before .before .before .before .args in
     call-refused (a .statement .now) (a .table .now) (a .line .now) (a .out .now) _
     (table-decides _ _ _ _ (sym (p .parse .ensures) ∙ r .parsed .given .1 ∙ ap Parsed.Taken (e .entry .given .1)) _
-    (table-refused _ _ _ (t .read-table .ensures .0) (c .before .own .given .1)))
+    (table-refused (a .table .now) (replicate longestTable 0) _ _ (length-replicate {A = ℕ} longestTable 0) (t .decode .ensures .0) (t .decode .ensures .1) _ (c .before .own .given .1)))
 
 returns-6 : tie.Need-returns-6
 returns-6 c =
@@ -76,11 +77,10 @@ returns-6 c =
     let r = e .before .before .before in
     let p = r .before .before in
     let a = p .before .before .before .before .before .before .before .args in
-    let table = table-read (a .table .now) _ _ (t .read-table .ensures .0) (o .own2 .given .1) in
+    let lent = table-lent (a .table .now) (replicate longestTable 0) _ _ (length-replicate {A = ℕ} longestTable 0) (t .decode .ensures .0) (t .decode .ensures .1) _ (o .own2 .given .1) in
     call-by (a .statement .now) (a .table .now) (a .line .now) (a .out .now) _ _
     (call-step (a .statement .now) (a .table .now) (a .line .now) (a .out .now) _ _ _ _
-    (sym (p .parse .ensures) ∙ r .parsed .given .1 ∙ ap Parsed.Taken (e .entry .given .1)) (table .clear) (table .front _ _ (t .read-table .ensures .1))
-    (w .take-step2 .ensures))
+    (sym (p .parse .ensures) ∙ r .parsed .given .1 ∙ ap Parsed.Taken (e .entry .given .1)) lent (w .take-step2 .ensures))
 
 pub call-spec : {M : Type 1} → statement M
 call-spec = tie.close (tie.spec (λ c κs. search needs) take-column-requires (λ c. search needs) returns (λ c κs. search needs) (λ c. search needs)

@@ -1,12 +1,13 @@
--- `call_line::take_column` meets its contract: a line that is refused as a T line decides, then a refused table, and then the column of the cells that
--- were read.
-use Rattle.laws.proofs.{refl, sym, _∙_, replicate, arith, needs}
+-- `call_line::take_column` meets its contract: a line that is refused as a T line decides, then bytes that are no numbers, and then the column of the
+-- cells that were read.
+use Rattle.laws.proofs.{ℕ, refl, sym, _∙_, replicate, length-replicate, arith, needs}
+use Rattle.table.specs.{longestTable}
 use Rattle.line.proofs.Columns.{column-refused, column-entered}
 use Rattle.table_grow.specs.{lineCells}
 use Rattle.table_grow.proofs.Cells.{Room, read-verdict, read-number, read-few, read-cells}
 use Rattle.call_answer.proofs.Order.{line-decides, table-decides}
 use Rattle.call_output.proofs.Given.{gives-refused}
-use Rattle.call_line.proofs.TableRead.{table-refused, table-read, no-table}
+use Rattle.call_line.proofs.TableRead.{no-table, table-refused, table-few, table-lent}
 use Rattle.call_line.proofs.Given.{call-column}
 use Rattle.call_line.proofs.take_column.Statement.{statement}
 use Rattle.call_line.proofs.take_column.Tie as tie
@@ -32,14 +33,14 @@ returns c =
     let read = has-read r in
     let clear = sym (read-verdict read) ∙ told .enum-told .given .1 in
     let none = no-table (a .table .now) (i .if1 .taken) in
-    call-column (a .statement .now) (a .table .now) (a .line .now) (a .out .now) clear _ _ _ _ _ (read-number read clear) (read-cells read clear) (none .0)
-    (none .1) (w .take-cells .ensures)
+    call-column (a .statement .now) (a .table .now) (a .line .now) (a .out .now) clear _ _ _ _ _ (read-number read clear) (read-cells read clear) none
+    (w .take-cells .ensures)
 
 part-take-cells-end-3 : tie.Need-part-take-cells-end-3
 part-take-cells-end-3 c =
     let t = c .before .before .before .before .before in
     let a = t .before .before .before .before .before .before .before .before .before .before .before .before .args in
-    omega (arith, table-read (a .table .now) _ _ (t .read-table .ensures .0) (c .before .before .own2 .given .1) .few)
+    omega (arith, table-few (a .table .now) (replicate longestTable 0) _ _ (length-replicate {A = ℕ} longestTable 0) (t .decode .ensures .0) (t .decode .ensures .1) _ (c .before .before .own2 .given .1))
 
 part-take-cells-end-4 : tie.Need-part-take-cells-end-4
 part-take-cells-end-4 c =
@@ -65,7 +66,7 @@ returns-3 c =
     let clear = sym (read-verdict (has-read r)) ∙ told .enum-told .given .1 in
     gives-refused _ _ _ _
     (table-decides (a .statement .now) (a .table .now) (a .line .now) _ (column-entered (a .line .now) clear) _
-    (table-refused _ _ _ (t .read-table .ensures .0) (c .before .own .given .1)))
+    (table-refused (a .table .now) (replicate longestTable 0) _ _ (length-replicate {A = ℕ} longestTable 0) (t .decode .ensures .0) (t .decode .ensures .1) _ (c .before .own .given .1)))
 
 returns-4 : tie.Need-returns-4
 returns-4 c =
@@ -77,9 +78,9 @@ returns-4 c =
     let a = r .before .before .before .before .before .before .args in
     let read = has-read r in
     let clear = sym (read-verdict read) ∙ told .enum-told .given .1 in
-    let table = table-read (a .table .now) _ _ (t .read-table .ensures .0) (o .own2 .given .1) in
-    call-column (a .statement .now) (a .table .now) (a .line .now) (a .out .now) clear _ _ _ _ _ (read-number read clear) (read-cells read clear) (table .clear)
-    (table .front _ _ (t .read-table .ensures .1)) (w .take-cells2 .ensures)
+    let lent = table-lent (a .table .now) (replicate longestTable 0) _ _ (length-replicate {A = ℕ} longestTable 0) (t .decode .ensures .0) (t .decode .ensures .1) _ (o .own2 .given .1) in
+    call-column (a .statement .now) (a .table .now) (a .line .now) (a .out .now) clear _ _ _ _ _ (read-number read clear) (read-cells read clear) lent
+    (w .take-cells2 .ensures)
 
 pub take-column-spec : {M : Type 1} → statement M
 take-column-spec = tie.close (tie.spec (λ c. search needs) (λ c κs. search needs) (λ c. search needs) (λ c. search needs)

@@ -1,21 +1,30 @@
--- `call_step::take_step` meets its contract: the verdict of the statement and of the step, and what the step leaves.
+-- `call_step::take_step` meets its contract: the verdict of the table, of the statement and of the step, and what the step leaves.
 use Rattle.laws.proofs.{_≤_, sym, _∙_, arith, length, needs}
 use Rattle.call_output.proofs.Given.{gives-refused, gives-written, gives-as}
 use Rattle.call_step.proofs.Acts.{step-weighed, step-places, step-written}
 use Rattle.call_step.proofs.take_step.Statement.{statement}
 use Rattle.call_step.proofs.take_step.Tie as tie
 
+-- what was called, from the last weighing
+abbrev statedOf : tie.After-least2 → tie.After-least
+statedOf v = v .before .before
+
+abbrev actedOf : tie.After-least2 → tie.After-act-on
+actedOf v = statedOf v .before
+
+abbrev passedOf : tie.After-least2 → tie.After-pass
+passedOf v = actedOf v .before .before
+
 -- the verdict is clear: the places of the area lie in the bytes
-in-bytes : (c : tie.After-enum-told) → let l = c .before .before in
-    let p = l .before .before .before in
+in-bytes : (c : tie.After-enum-told) → let p = passedOf (c .before .before) in
     let s = p .before .before .before .before .args .statement .now in
     (p .pass .result .body ≤ p .pass .result .from) × (p .pass .result .from ≤ length s) × (p .pass .result .to ≤ length s)
 in-bytes c =
-    let l = c .before .before in
-    let a = l .before in
-    let p = a .before .before in
+    let v = c .before .before in
+    let p = passedOf v in
     let x = p .before .before .before .before .args in
-    step-places (x .own .now) (x .statement .now) (x .on) _ _ _ (p .pass .ensures) (a .act-on .ensures) (l .least .ensures) (c .enum-told .given .1)
+    step-places (x .own .now) (x .statement .now) (x .on) _ _ _ _ _ (p .pass .ensures) (actedOf v .act-on .ensures) (statedOf v .least .ensures)
+    (v .before .judge .ensures) (v .least2 .ensures) (c .enum-told .given .1)
 
 sub-write-changed : tie.Need-sub-write-changed
 sub-write-changed c = in-bytes (c .before) .0
@@ -34,24 +43,26 @@ part-write-changed-start-2 c = omega (arith, in-bytes (c .before .before))
 
 returns : tie.Need-returns
 returns c =
-    let l = c .before .before .before in
-    let a = l .before in
-    let p = a .before .before in
-    gives-refused _ _ _ _ (sym (step-weighed _ _ _ _ _ _ (p .pass .ensures) (a .act-on .ensures) (l .least .ensures)) ∙ c .before .v .given .1)
+    let v = c .before .before .before in
+    gives-refused _ _ _ _
+    (sym (step-weighed _ _ _ _ _ _ _ _ (passedOf v .pass .ensures) (actedOf v .act-on .ensures) (statedOf v .least .ensures) (v .before .judge .ensures) (v .least2 .ensures))
+    ∙ c .before .v .given .1)
 
 returns-2 : tie.Need-returns-2
 returns-2 c =
     let w = c .before .before in
     let told = w .before .before .before .before .before in
-    let l = told .before .before in
-    let a = l .before in
-    let p = a .before .before in
+    let v = told .before .before in
+    let p = passedOf v in
+    let a = actedOf v in
+    let s = statedOf v in
     let clear = told .enum-told .given .1 in
-    gives-as (step-weighed _ _ _ _ _ _ (p .pass .ensures) (a .act-on .ensures) (l .least .ensures))
-    (step-written _ _ _ _ _ _ (p .pass .ensures) (a .act-on .ensures) (l .least .ensures) clear)
+    gives-as (step-weighed _ _ _ _ _ _ _ _ (p .pass .ensures) (a .act-on .ensures) (s .least .ensures) (v .before .judge .ensures) (v .least2 .ensures))
+    (step-written _ _ _ _ _ _ _ _ (p .pass .ensures) (a .act-on .ensures) (s .least .ensures) (v .before .judge .ensures) (v .least2 .ensures) clear)
     (gives-written _ _ _ _ _ clear (w .write-changed .ensures))
 
 pub take-step-spec : {M : Type 1} → statement M
-take-step-spec = tie.close (tie.spec (λ c κs. search needs) (λ c κs. search needs) (λ c κs. search needs) (λ c. search needs) (λ c. search needs)
+take-step-spec = tie.close (tie.spec (λ c κs. search needs) (λ c κs. search needs) (λ c κs. search needs) (λ c κs. search needs) (λ c κs. search needs)
+    (λ c. search needs) (λ c. search needs)
     sub-write-changed part-write-changed-start part-write-changed-end sub-write-changed-2 part-write-changed-start-2 (λ c. search needs)
     (λ c κs. search needs) returns (λ c. search needs) returns-2)

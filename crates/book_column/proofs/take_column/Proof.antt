@@ -1,8 +1,8 @@
--- `book_turn::take_column` meets its contract, by the verdict of the table that grows.
+-- `book_column::take_column` meets its contract, by the verdict of the table that grows.
 use Rattle.laws.proofs.{_≡_, arith, length, needs}
 use Rattle.table.specs.{longestTable}
-use Rattle.book_turn.proofs.Turns.{held-few, held-own, column-refused, column-accepted}
-use Rattle.book_turn.proofs.take_column.Tie as tie
+use Rattle.book_column.proofs.Columns.{held-few, held-own, column-refused, column-accepted}
+use Rattle.book_column.proofs.take_column.Tie as tie
 
 part-grow-end : tie.Need-part-grow-end
 part-grow-end c = omega (arith, c .held .ensures, held-few (c .before .before .before .before .before .args .count .now))
@@ -30,6 +30,6 @@ returns-2 c =
     (c .before .before .enum-told .given .1) (c .empty-area .ensures) in
     (column .comes, (column .leaves, column .counts))
 
-pub take-column-spec : {M : Type 1} → Rattle.book_turn.proofs.take_column.Statement.statement M
+pub take-column-spec : {M : Type 1} → Rattle.book_column.proofs.take_column.Statement.statement M
 take-column-spec = tie.close (tie.spec (λ c κs. search needs) (λ c. search needs) (λ c. search needs) part-grow-end (λ c κs. search needs)
     (λ c. search needs) (λ c κs. search needs) (λ c. search needs) (λ c κs. search needs) returns returns-2)

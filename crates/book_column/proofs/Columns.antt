@@ -1,16 +1,13 @@
--- A line's turn, one law for each way out: what was read decides, and a T line goes by the verdict of the table that grows.
+-- A T line goes by the verdict of the table that grows.
 use Rattle.laws.proofs.{ℕ, _-_, _≤_, _≡_, sym, ap, _∙_, List, ⊎-elim, arith, length, take, take-all, le-ltb, lt-ltb}
 use native.Mathlib.Nat.{sub-zero}
 use Rattle.laws.proofs.Order.{below-or-not}
 use Rattle.refusals.specs.{Refusal, Verdict}
 use Rattle.table.specs.{longestTable}
-use Rattle.line_entry.specs.{AreaAct, Entry, Parsed}
 use Rattle.holding.specs.{Area, Found, emptyArea}
-use Rattle.holding_look.specs.{Looked}
 use Rattle.step_outcome.specs.{Outcome, turnedBack, accepted, answered, Report}
-use Rattle.step.specs.{acted}
 use Rattle.table_grow.specs.{Grown, growable, grownBy}
-use Rattle.book_turn.specs.{refusalIn, heldOf, columnOutcome, columnNumbers, columnCount, parsedOutcome, parsedNumbers, parsedCount}
+use Rattle.book_column.specs.{heldOf, columnOutcome, columnNumbers, columnCount}
 
 -- ---- the numbers held
 
@@ -60,30 +57,3 @@ module _ (numbers : List ℕ) (count areas : ℕ) (line own : List ℕ) (same : 
         leaves = ap (λ (x : Grown). x .numbers) grown-is ∙ sym (simp w);
         counts = ap (λ (x : Grown). x .count) grown-is ∙ sym (simp w);
       }
-
--- ---- any line
-
-pub record Turn (numbers : List ℕ) (count : ℕ) (default : List ℕ) (looked : Looked) (line : List ℕ) (parsed : Parsed) (outcome : Outcome) (after : List ℕ) (left : ℕ) : Type 0 where
-  pub comes : outcome ≡ parsedOutcome (take count numbers) default looked line parsed
-  pub leaves : after ≡ parsedNumbers numbers count (looked .count) line parsed
-  pub counts : left ≡ parsedCount numbers count (looked .count) line parsed
-
-module _ (numbers : List ℕ) (count : ℕ) (default : List ℕ) (looked : Looked) (line : List ℕ) (parsed : Parsed) (outcome : Outcome) where
-  pub line-refused : (r refusal : Refusal) → parsed ≡ Parsed.Refused r → refusal ≡ refusalIn parsed → outcome ≡ turnedBack refusal
-      → Turn numbers count default looked line parsed outcome numbers count
-  unfolding parsedOutcome
-  line-refused r refusal e q o = record { comes = o ∙ ap turnedBack (q ∙ ap refusalIn e) ∙ sym (simp e); leaves = sym (simp e); counts = sym (simp e) }
-
-  pub line-column : (entry : Entry) (column : ℕ) (after : List ℕ) (left : ℕ) → parsed ≡ Parsed.Taken entry → entry ≡ Entry.Column column
-      → Column numbers count (looked .count) line outcome after left → Turn numbers count default looked line parsed outcome after left
-  unfolding parsedOutcome
-  line-column entry column after left e k t =
-      let read = e ∙ ap Parsed.Taken k in
-      record { comes = t .comes ∙ sym (simp read); leaves = t .leaves ∙ sym (simp read); counts = t .counts ∙ sym (simp read) }
-
-  pub line-act : (entry : Entry) (on : AreaAct) (own : List ℕ) → parsed ≡ Parsed.Taken entry → entry ≡ Entry.On on → own ≡ take count numbers
-      → outcome ≡ acted own default looked (on .act) → Turn numbers count default looked line parsed outcome numbers count
-  unfolding parsedOutcome
-  line-act entry on own e k same o =
-      let read = e ∙ ap Parsed.Taken k in
-      record { comes = o ∙ ap (λ (l : List ℕ). acted l default looked (on .act)) same ∙ sym (simp read); leaves = sym (simp read); counts = sym (simp read) }
