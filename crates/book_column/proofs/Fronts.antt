@@ -2,7 +2,6 @@
 use Rattle.laws.proofs.{ℕ, _≤_, _≡_, refl, sym, subst, List, arith, length, take, drop, replicate, length-append, length-drop, length-replicate}
 use Rattle.refusals.specs.{Verdict, bufferAfter}
 use Rattle.table.specs.{longestTable}
-use Rattle.step_outcome.specs.{Outcome}
 use Rattle.step_outcome.proofs.Laws.{answered-verdict}
 use Rattle.table_grow.specs.{longerBy, growable, grownBy}
 use Rattle.table_grow.proofs.Fits.{longer-fits, grown-front, count-fits}

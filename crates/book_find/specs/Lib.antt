@@ -1,3 +1,3 @@
 pub mod Naming
 pub use declared.Named.{Named}
-pub use Naming.{numbersIn, placeIn, nothingNamed, namedBy}
+pub use Naming.{placeIn, nothingNamed, namedBy}

@@ -1,12 +1,8 @@
 -- The area that a line names, by the numbers of the areas that stand: T names none.
-use Rattle.laws.specs.{ℕ, List, map}
+use Rattle.laws.specs.{ℕ, List}
 use Rattle.line_entry.specs.{Entry, Parsed}
-use Rattle.holding.specs.{Area, Found, placeFrom}
+use Rattle.holding.specs.{Found, placeFrom}
 use Rattle.book_find.specs.declared.Named.{Named}
-
--- the numbers that areas bear
-abbrev pub numbersIn : List Area → List ℕ
-numbersIn areas = map (λ (a : Area). a .number) areas
 
 -- the place of the first number that is the number
 abbrev pub placeIn : List ℕ → ℕ → Found

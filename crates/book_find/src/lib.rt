@@ -1,10 +1,8 @@
 // The area that a line of a book names.
 ghost use mathlib.Core.Path.{_≡_};
 ghost use lib.ListN.{take};
-ghost use Rattle.book_find.specs.{numbersIn, placeIn, nothingNamed, namedBy};
+ghost use Rattle.book_find.specs.{placeIn, nothingNamed, namedBy};
 use holding::Found;
-use holding::Holding;
-use holding::MOST_AREAS;
 use line_entry::Entry;
 use line_entry::Parsed;
 
@@ -12,20 +10,6 @@ use line_entry::Parsed;
 pub struct Named {
     pub number: u16,
     pub found: Found,
-}
-
-// The number of every area of a holding, those that do not stand too.
-pub fn numbers_of(holding: Holding) -> [u16; MOST_AREAS]
-    ensures { λ r. ⌜ r ≡ numbersIn (holding .areas) ⌝ }
-{
-    let mut numbers = [0u16; MOST_AREAS];
-    let mut i: usize = 0;
-    while i < MOST_AREAS {
-        let area = holding.areas[i];
-        numbers[i] = area.number;
-        i += 1;
-    }
-    numbers
 }
 
 fn nothing_named() -> Named

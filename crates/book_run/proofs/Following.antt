@@ -4,12 +4,12 @@ use Rattle.refusals.specs.{Verdict}
 use Rattle.schedules.specs.{schedule6}
 use Rattle.line_entry.specs.{Parsed}
 use Rattle.line.specs.{entryOf}
-use Rattle.holding.specs.{Area, Holding, Found}
+use Rattle.holding.specs.{Area, Holding, Found, numbersIn}
 use Rattle.holding_look.specs.{Looked, areaAt, lookedAt}
 use Rattle.holding_look.proofs.Laws.{looked-as}
 use Rattle.step_outcome.specs.{Outcome, placedAt, placed}
 use Rattle.book_listing.specs.{parsedTaken, lineTaken, parsedTable, ifAccepted, tableAfter, Run, next, printedFor, printed}
-use Rattle.book_find.specs.{Named, numbersIn, namedBy}
+use Rattle.book_find.specs.{Named, namedBy}
 use Rattle.book_column.specs.{Fronts}
 use Rattle.book_run.specs.{parsedOutcome}
 use Rattle.book_run.proofs.Turns.{turn-taken}

@@ -1,19 +1,18 @@
 -- A line's turn, one law for each way out: what was read decides, and all but an accepted T line leave the table. A turn is that of the fold.
 use Rattle.laws.proofs.{ℕ, _-_, _≤_, _≡_, refl, sym, ap, subst, _∙_, List, length, take}
 use native.Mathlib.Nat.{sub-zero}
-use Rattle.refusals.specs.{Refusal, Verdict}
+use Rattle.refusals.specs.{Refusal}
 use Rattle.schedules.specs.{schedule6}
 use Rattle.table.specs.{longestTable}
 use Rattle.line_entry.specs.{AreaAct, Entry, Parsed}
-use Rattle.holding.specs.{Holding, Found}
+use Rattle.holding.specs.{Holding, Found, numbersIn}
 use Rattle.holding_look.specs.{Looked, lookedAt}
 use Rattle.step_outcome.specs.{Outcome, turnedBack}
 use Rattle.step.specs.{acted, applied}
-use Rattle.table_grow.specs.{longerBy}
-use Rattle.book_listing.specs.{entryTaken, parsedTaken, parsedTable, ifAccepted}
-use Rattle.book_find.specs.{numbersIn, namedBy}
+use Rattle.book_listing.specs.{entryTaken, parsedTaken}
+use Rattle.book_find.specs.{namedBy}
 use Rattle.book_find.proofs.Naming.{place-in-holding}
-use Rattle.book_column.specs.{columnOutcome, columnNumbers, columnCount, Fronts}
+use Rattle.book_column.specs.{columnOutcome, columnNumbers, columnCount}
 use Rattle.book_column.proofs.Fronts.{stays, column-leaves}
 use Rattle.book_run.specs.{refusalIn, parsedOutcome, Turn}
 

@@ -80,7 +80,7 @@ pub fn put_lines(book: &[u8], next: usize, reached: Reached, most: usize, out: &
     }
     let default = schedules::schedule_six();
     let mut holding = reached.holding;
-    let mut numbers = book_find::numbers_of(holding);
+    let mut numbers = holding::numbers_of(holding);
     let mut table = reached.table;
     let mut count = reached.count;
     let mut accepted = reached.accepted;

@@ -1,13 +1,15 @@
 -- The order of a call's parts. A line is refused by a number up to 6 and a table by 6; a statement is refused by 11, and an entry that was read, on any
 -- holding and table, by no number below 6. So a refused line decides, then a refused table, and only the statement and the state are weighed together.
-use Rattle.laws.proofs.{ℕ, _/_, _%_, _≤_, _≡_, refl, Bool, true, false, not, cond, List, arith, eqb, leb, ltb, lit≤, length}
+use Rattle.laws.proofs.{ℕ, _/_, _%_, _≤_, _≡_, refl, Bool, true, false, not, List, arith, eqb, leb, ltb, lit≤, length}
 use Rattle.text.specs.{split}
 use Rattle.refusals.specs.{smaller, Refusal, Verdict, numberOf, weighed, weighAll, smallest}
 use Rattle.table.specs.{longestTable, isTable}
 use Rattle.table_bytes.specs.{numbersOf, decodable}
-use Rattle.line_entry.specs.{Act, Entry, Rule, parsed, areaAndYear, openRule, addRule, clearRule, plantRule, fileRule, withdrawRule, Parsed}
+use Rattle.line_entry.specs.{Act, Entry, Rule, areaAndYear, openRule, addRule, clearRule, plantRule, fileRule, withdrawRule, Parsed}
 use Rattle.line_column.specs.{columnRule}
 use Rattle.line.specs.{bodyOf, letterOf, noRule, ruleOf, lineRule, conditions, entryOf}
+use Rattle.line.proofs.Letters.{of-letters}
+use Rattle.line.proofs.Refused.{turned-by}
 use Rattle.ranges.specs.{isArea}
 use Rattle.schedules.specs.{schedule6}
 use Rattle.holding.specs.{Holding}
@@ -34,20 +36,9 @@ use Rattle.call_answer.proofs.Tables.{startsAt, starts-from, weighed-fr
 
 -- ---- the line: at most 6
 
-either : (t : Bool) (x y : Rule) → endsAt 6 (x .cases) ≡ true → endsAt 6 (y .cases) ≡ true → endsAt 6 (cond t x y .cases) ≡ true
-either true x y p q = p
-either false x y p q = q
-
 rules-end : (letter : ℕ) (fs : List (List ℕ)) → endsAt 6 (ruleOf letter fs .cases) ≡ true
-unfolding ruleOf noRule columnRule areaAndYear openRule addRule clearRule plantRule fileRule withdrawRule endsAt
-rules-end letter fs =
-    either (eqb letter 84) _ _ refl (either (eqb letter 65) _ _ refl (either (eqb letter 83) _ _ refl (either (eqb letter 67) _ _ refl
-    (either (eqb letter 80) _ _ refl (either (eqb letter 82) _ _ refl (either (eqb letter 87) _ _ refl refl))))))
-
-turned-by : (v : Verdict) (entry : Entry) (r : Refusal) → parsed v entry ≡ Parsed.Refused r → v ≡ Verdict.Refused r
-unfolding parsed
-turned-by Verdict.Accepted entry r e = let z : _≡_ {A = ℕ} 0 1 = cc in absurd (omega arith)
-turned-by (Verdict.Refused s) entry r e = cc
+unfolding noRule columnRule areaAndYear openRule addRule clearRule plantRule fileRule withdrawRule endsAt
+rules-end letter fs = of-letters (λ (x : Rule). endsAt 6 (x .cases) ≡ true) fs refl refl refl refl refl refl refl refl letter
 
 pub line-six : (line : List ℕ) (r : Refusal) → entryOf line ≡ Parsed.Refused r → numberOf r ≤ 6
 unfolding entryOf conditions lineRule endsAt

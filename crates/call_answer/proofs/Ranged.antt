@@ -1,5 +1,5 @@
 -- What a line is read as is within the ranges of document 01's "Entries": the cases of its letter's rule, of which none applies, say so.
-use Rattle.laws.proofs.{ℕ, suc, _+_, _/_, _≤_, _≡_, refl, subst, Bool, true, false, cond, _&&_, List, arith, le-leb, ltb-false, eq-eqb, eqb, leb, ltb}
+use Rattle.laws.proofs.{ℕ, suc, _+_, _/_, _≤_, _≡_, refl, subst, Bool, true, false, _&&_, List, arith, le-leb, ltb-false, eq-eqb, leb, ltb}
 use Rattle.laws.proofs.Elements.{or-false-left, or-false-right}
 use Rattle.text.specs.{split}
 use Rattle.refusals.specs.{smallest}
@@ -13,6 +13,7 @@ use Rattle.line_entry.specs.{Act, Entry, numberAt, hectaresAt, typeAt, badArea,
 use Rattle.line_type.specs.{unlisted, unplantable, misdated, forestOf}
 use Rattle.line_column.specs.{columnRule}
 use Rattle.line.specs.{bodyOf, letterOf, noRule, ruleOf, lineRule, conditions, entryOf}
+use Rattle.line.proofs.Letters.{of-letters}
 use Rattle.line.proofs.Columns.{taken-by}
 
 -- an act whose fields are within their ranges, and an entry whose area is too
@@ -70,10 +71,6 @@ plantable (Named.Listed Forest.Indigenous) e = refl
 abbrev Sound : Rule → Type 0
 Sound rule = RuledOut (rule .cases) → EntryRanged (rule .entry)
 
-either : (t : Bool) (x y : Rule) → Sound x → Sound y → Sound (cond t x y)
-either true x y p q = p
-either false x y p q = q
-
 module _ (fs : List (List ℕ)) where
   area-range : (k : ℕ) → badArea (numberAt fs k) ≡ false → isArea (valueOf (numberAt fs k)) ≡ true
   area-range k e = in-range 1 999 (numberAt fs k) e
@@ -125,11 +122,7 @@ module _ (fs : List (List ℕ)) where
   none-sound n = clash (n 0)
 
   rule-sound : (letter : ℕ) → Sound (ruleOf letter fs)
-  unfolding ruleOf
-  rule-sound letter =
-      either (eqb letter 84) _ _ column-sound (either (eqb letter 65) _ _ open-sound (either (eqb letter 83) _ _ add-sound
-      (either (eqb letter 67) _ _ clear-sound (either (eqb letter 80) _ _ plant-sound (either (eqb letter 82) _ _ file-sound
-      (either (eqb letter 87) _ _ withdraw-sound none-sound))))))
+  rule-sound = of-letters Sound fs column-sound open-sound add-sound clear-sound plant-sound file-sound withdraw-sound none-sound
 
 pub entry-ranged : (line : List ℕ) (entry : Entry) → entryOf line ≡ Parsed.Taken entry → EntryRanged entry
 unfolding entryOf conditions lineRule

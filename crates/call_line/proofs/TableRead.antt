@@ -2,7 +2,7 @@
 use Rattle.laws.proofs.{ℕ, _-_, _≤_, _≡_, refl, sym, ap, _∙_, not, List, [], _∷_, arith, length, take, drop}
 use lib.Seq.{take-at}
 use Rattle.refusals.specs.{Refusal, Verdict, weighed, weighAll, smallest, Written, written, bufferAfter}
-use Rattle.table.specs.{longestTable, isTable, hasColumns, judged}
+use Rattle.table.specs.{longestTable, isTable, judged}
 use Rattle.table_bytes.specs.{numbersOf, decodable}
 use Rattle.table_bytes.proofs.Numbers.{number-count, clear-decodable}
 use Rattle.call_answer.specs.{tableVerdict}

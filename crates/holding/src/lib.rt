@@ -1,6 +1,6 @@
 // The state of the accounts: a holding of accounting areas, each of sub-areas, by value.
 ghost use mathlib.Core.Path.{_≡_};
-ghost use Rattle.holding.specs.{emptySub, emptyArea, emptyHolding, findArea, findSub};
+ghost use Rattle.holding.specs.{emptySub, emptyArea, emptyHolding, numbersIn, findArea, findSub};
 use forest::Forest;
 use units::Kilograms;
 use units::Tenths;
@@ -94,6 +94,20 @@ pub fn empty_holding() -> Holding
         count: 0,
         areas: [empty_area(); MOST_AREAS],
     }
+}
+
+// The number of every area of a holding, those that do not stand too.
+pub fn numbers_of(holding: Holding) -> [u16; MOST_AREAS]
+    ensures { λ r. ⌜ r ≡ numbersIn (holding .areas) ⌝ }
+{
+    let mut numbers = [0u16; MOST_AREAS];
+    let mut i: usize = 0;
+    while i < MOST_AREAS {
+        let area = holding.areas[i];
+        numbers[i] = area.number;
+        i += 1;
+    }
+    numbers
 }
 
 // The place of the standing area with the number.

@@ -10,6 +10,7 @@ use Rattle.line_entry.specs.{Entry, Parsed, Rule, parsed, openRule, addRule, cl
 use Rattle.line_cells.specs.{tenthsAll}
 use Rattle.line_column.specs.{ReadColumn, cellsOf, columnOf, columnRule, readable, columnRead}
 use Rattle.line.proofs.Laws.{first-passed}
+use Rattle.line.proofs.Letters.{actRule, of-acts}
 use Rattle.line.specs.{bodyOf, fieldsOf, longest, letterOf, isColumnLine, noRule, ruleOf, lineRule, conditions, entryOf, asColumn}
 
 -- three cases of one number are one test
@@ -57,29 +58,13 @@ abbrev pub isColumn : Entry → Bool
 isColumn (Entry.Column column) = true
 isColumn (Entry.On on) = false
 
-neither : (t : Bool) (x y : Rule) → isColumn (x .entry) ≡ false → isColumn (y .entry) ≡ false → isColumn (cond t x y .entry) ≡ false
-neither true x y p q = p
-neither false x y p q = q
-
 pub column-rule : (letter : ℕ) (fs : List (List ℕ)) → isColumn (ruleOf letter fs .entry) ≡ eqb letter 84
 unfolding ruleOf columnRule openRule addRule clearRule plantRule fileRule withdrawRule noRule
 column-rule letter fs = go (eqb letter 84)
   where
-    others : Rule
-    others =
-        cond (eqb letter 65) (openRule fs)
-        (cond (eqb letter 83) (addRule fs)
-        (cond (eqb letter 67) (clearRule fs)
-        (cond (eqb letter 80) (plantRule fs)
-        (cond (eqb letter 82) (fileRule fs)
-        (cond (eqb letter 87) (withdrawRule fs)
-        noRule)))))
-
-    go : (t : Bool) → isColumn (cond t (columnRule fs) others .entry) ≡ t
+    go : (t : Bool) → isColumn (cond t (columnRule fs) (actRule letter fs) .entry) ≡ t
     go true = refl
-    go false =
-        neither (eqb letter 65) _ _ refl (neither (eqb letter 83) _ _ refl (neither (eqb letter 67) _ _ refl
-        (neither (eqb letter 80) _ _ refl (neither (eqb letter 82) _ _ refl (neither (eqb letter 87) _ _ refl refl)))))
+    go false = of-acts (λ (x : Rule). isColumn (x .entry) ≡ false) fs refl refl refl refl refl refl refl letter
 
 pub column-taken : (line : List ℕ) (column : ℕ) → entryOf line ≡ Parsed.Taken (Entry.Column column)
     → (asColumn line ≡ Verdict.Accepted) × (columnOf (fieldsOf line) ≡ column)

@@ -1,3 +1,4 @@
 pub mod Laws
+pub mod Letters
 pub mod Columns
 pub mod Refused

@@ -64,11 +64,6 @@ pub fn areas(holding: Holding) -> bool
     ensures { λ r. ⌜ r ≡ distinct (λ (area : Area). area .number) (areasOf holding) ⌝ }
 {
     let n = lesser(holding.count, MOST_AREAS);
-    let mut borne = [0u16; MOST_AREAS];
-    let mut i: usize = 0;
-    while i < n {
-        borne[i] = holding.areas[i].number;
-        i += 1;
-    }
-    numbers(&borne[0..n])
+    let held = holding::numbers_of(holding);
+    numbers(&held[0..n])
 }

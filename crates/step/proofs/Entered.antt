@@ -1,5 +1,5 @@
 -- A step entered: what was called is what the step is made of; and under a list that is a table it is the act, under any other it is turned back.
-use Rattle.laws.proofs.{ℕ, _≤_, Bool, true, false, cond, not, _≡_, refl, sym, ap, subst, _∙_, List, arith, leb, leb-false}
+use Rattle.laws.proofs.{ℕ, _≤_, Bool, true, false, cond, _≡_, refl, sym, ap, subst, _∙_, List, arith, leb, leb-false}
 use Rattle.refusals.specs.{Refusal, Verdict, numberOf, weighed, smaller}
 use Rattle.schedules.specs.{schedule6}
 use Rattle.table.specs.{isTable, judged}

@@ -1,5 +1,5 @@
 -- What is no table is refused where it would be extended: it is not empty, and does not have its columns.
-use Rattle.laws.proofs.{ℕ, Bool, true, false, cond, _||_, _≡_, refl, ap, _∙_, List, arith, eqb, length, replicate}
+use Rattle.laws.proofs.{ℕ, Bool, true, false, cond, _||_, _≡_, List, arith, eqb, length, replicate}
 use Rattle.refusals.specs.{Refusal, Verdict, weighed, weighAll, smallest}
 use Rattle.table_parts.specs.{columnCount}
 use Rattle.table.specs.{hasColumns, isTable}

@@ -5,7 +5,7 @@ use Rattle.laws.proofs.Standing.{as-long, map-set}
 use Rattle.text.specs.{greatest, lineEnd, Wrote}
 use Rattle.text.proofs.Widths.{end-inside}
 use Rattle.text.proofs.Writes.{wrote-none, wrote-then, wrote-as, wrote-length}
-use Rattle.holding.specs.{Holding, mostAreas}
+use Rattle.holding.specs.{Holding, mostAreas, numbersIn}
 use Rattle.holding_look.specs.{areaAt}
 use Rattle.holding_look.proofs.Laws.{area-here, area-out, area-nowhere}
 use Rattle.step_outcome.specs.{placed}
@@ -14,7 +14,6 @@ use Rattle.table.specs.{longestTable}
 use Rattle.book_print.specs.{reportWidth}
 use Rattle.book_listing.specs.{Run, runFrom, printedFrom, longestBook}
 use Rattle.book_listing.proofs.Folding.{from-line, run-line, left-line, from-none, run-none}
-use Rattle.book_find.specs.{numbersIn}
 use Rattle.book_reached.specs.{mayRunFrom}
 use Rattle.book_reached.proofs.Bounds.{Bounds, bounds, may}
 use Rattle.book_run.specs.{Part, linesFrom, RunOf}

@@ -1,12 +1,11 @@
--- `book_find::numbers_of` meets its contract: the loop stores the numbers from the front, and there are as many as places.
+-- `holding::numbers_of` meets its contract: the loop stores the numbers from the front, and there are as many as places.
 use Rattle.laws.proofs.{ℕ, _+_, _-_, _≡_, ap, subst, _∙_, List, _++_, append-nil, arith, length, set, drop, replicate, length-map, needs}
 use native.Mathlib.Nat.{zero-add}
 use lib.ListN.{List·getD-map}
 use Rattle.laws.proofs.Standing.{as-long}
 use Rattle.laws.proofs.Stores.{Storing, storing-none, storing-more, storing-all, stored-in-front}
-use Rattle.holding.specs.{Area, mostAreas}
-use Rattle.book_find.specs.{numbersIn}
-use Rattle.book_find.proofs.numbers_of.Tie as tie
+use Rattle.holding.specs.{Area, mostAreas, numbersIn}
+use Rattle.holding.proofs.numbers_of.Tie as tie
 
 abbrev Inv-loop : tie.InvT-loop
 Inv-loop holding numbers₀ i₀ numbers i = Storing (numbersIn (holding .areas)) numbers₀ 0 numbers i
@@ -40,6 +39,6 @@ returns c =
     ∙ ap (λ (n : ℕ). numbersIn (s .args .t1 .areas) ++ drop n noughts) inside
     ∙ append-nil _
 
-pub numbers-of-spec : {M : Type 1} → Rattle.book_find.proofs.numbers_of.Statement.statement M
+pub numbers-of-spec : {M : Type 1} → Rattle.holding.proofs.numbers_of.Statement.statement M
 numbers-of-spec = tie.close (tie.spec Inv-loop μ-loop (λ c. storing-none (numbersIn (c .args .t1 .areas)) noughts 0) (λ c. search needs) (λ c. search needs) (λ c. search needs)
     (λ c. search needs) (λ c. search needs) (λ c. omega (arith, c .before .loop-test .taken)) loop-again returns)
