@@ -101,11 +101,11 @@ pub fn numbers_of(holding: Holding) -> [u16; MOST_AREAS]
     ensures { λ r. ⌜ r ≡ numbersIn (holding .areas) ⌝ }
 {
     let mut numbers = [0u16; MOST_AREAS];
-    let mut i: usize = 0;
-    while i < MOST_AREAS {
-        let area = holding.areas[i];
-        numbers[i] = area.number;
-        i += 1;
+    let mut k: usize = 0;
+    while k < MOST_AREAS {
+        let area = holding.areas[k];
+        numbers[k] = area.number;
+        k += 1;
     }
     numbers
 }

@@ -8,10 +8,10 @@ use Rattle.holding.specs.{Area, mostAreas, numbersIn}
 use Rattle.holding.proofs.numbers_of.Tie as tie
 
 abbrev Inv-loop : tie.InvT-loop
-Inv-loop holding numbers₀ i₀ numbers i = Storing (numbersIn (holding .areas)) numbers₀ 0 numbers i
+Inv-loop holding numbers₀ k₀ numbers k = Storing (numbersIn (holding .areas)) numbers₀ 0 numbers k
 
 abbrev μ-loop : tie.MeasureT-loop
-μ-loop holding numbers₀ i₀ numbers i = mostAreas - i
+μ-loop holding numbers₀ k₀ numbers k = mostAreas - k
 
 abbrev noughts : List ℕ
 noughts = replicate mostAreas 0
@@ -26,15 +26,15 @@ loop-again c =
     let s = c .before .before .before in
     let areas = s .args .t1 .areas in
     let inside = all-numbered s in
-    subst (λ (n : ℕ). Storing (numbersIn areas) noughts 0 (set (l .numbers) (l .i) n) (l .i + 1)) (List·getD-map (λ (a : Area). a .number) areas (l .i) _)
-    (simp (zero-add (l .i)) at (storing-more (numbersIn areas) noughts 0 0 (l .numbers) (l .i) (omega (arith, c .before .loop-test .taken)) (l .inv)))
+    subst (λ (n : ℕ). Storing (numbersIn areas) noughts 0 (set (l .numbers) (l .k) n) (l .k + 1)) (List·getD-map (λ (a : Area). a .number) areas (l .k) _)
+    (simp (zero-add (l .k)) at (storing-more (numbersIn areas) noughts 0 0 (l .numbers) (l .k) (omega (arith, c .before .loop-test .taken)) (l .inv)))
 
 returns : tie.Need-returns Inv-loop μ-loop
 returns c =
     let l = c .before .loop in
     let s = c .before .before in
     let inside = all-numbered s in
-    storing-all (numbersIn (s .args .t1 .areas)) noughts 0 (l .numbers) (l .i) (omega (arith, c .loop-test .left)) (l .inv)
+    storing-all (numbersIn (s .args .t1 .areas)) noughts 0 (l .numbers) (l .k) (omega (arith, c .loop-test .left)) (l .inv)
     ∙ stored-in-front (numbersIn (s .args .t1 .areas)) noughts (omega arith)
     ∙ ap (λ (n : ℕ). numbersIn (s .args .t1 .areas) ++ drop n noughts) inside
     ∙ append-nil _
