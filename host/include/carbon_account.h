@@ -26,7 +26,7 @@ extern "C" {
 
 /* Room for any statement, table, line with its end, and for all that the call writes: it is proved that none is longer.
  * The call writes 11921 bytes at most, and into CARBON_OUT_BYTES it writes without measuring first.
- * The deepest stack that was measured of a call is 9768 bytes, and it does not grow with the areas. */
+ * The deepest stack that was measured of a call is 9720 bytes, and it does not grow with the areas. */
 enum {
     CARBON_STATEMENT_BYTES = 11861,
     CARBON_TABLE_BYTES = 2040,
