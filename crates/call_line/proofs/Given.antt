@@ -23,6 +23,12 @@ use Rattle.call_column.specs.{cellsVerdict}
 use Rattle.call_step.specs.{stepOutcome, stepVerdict, stepBytes}
 use Rattle.call_line.proofs.TableRead.{Lent}
 
+-- a statement that is refused has a greater number than what is no table
+table-first : (v : Verdict) → From 11 v → smaller v (Verdict.Refused Refusal.TableColumn) ≡ Verdict.Refused Refusal.TableColumn
+table-first Verdict.Accepted f = refl
+table-first (Verdict.Refused r) f =
+    let h : 11 ≤ numberOf r = f in sym (second-least (Verdict.Refused r) (Verdict.Refused Refusal.TableColumn) r Refusal.TableColumn refl refl (omega arith))
+
 module _ (statement table line out : List ℕ) where
   pub call-refused : (r : Refusal) → callVerdict statement table line ≡ Verdict.Refused r
       → (Written.Refused r ≡ written (callWeighed statement table line (length out)) (callBytes statement table line)) × (out ≡ callOutput statement table line out)
@@ -61,12 +67,6 @@ module _ (statement table line out : List ℕ) where
         (ap (λ (v : Verdict). weighed (andThen v (extensible (begun own) (lineColumn line) (lineCells line) longestTable))
         (leb 1 (readOf statement .holding .count)) Refusal.TableAfterArea) (sym clear)
         ∙ sym (answered-verdict (growable own (readOf statement .holding .count) line) (columnTaken (readOf statement .holding .count)) refl))
-
-    -- a statement that is refused has a greater number than what is no table
-    table-first : (v : Verdict) → From 11 v → smaller v (Verdict.Refused Refusal.TableColumn) ≡ Verdict.Refused Refusal.TableColumn
-    table-first Verdict.Accepted f = refl
-    table-first (Verdict.Refused r) f =
-        let h : 11 ≤ numberOf r = f in sym (second-least (Verdict.Refused r) (Verdict.Refused Refusal.TableColumn) r Refusal.TableColumn refl refl (omega arith))
 
     no-table-decides : (own : List ℕ) → isTable own ≡ false
         → cellsVerdict own statement (lineColumn line) (lineCells line) ≡ Verdict.Refused Refusal.TableColumn

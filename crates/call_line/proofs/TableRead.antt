@@ -1,5 +1,5 @@
 -- What was read of a table: its numbers stand in front, and are judged as its bytes are.
-use Rattle.laws.proofs.{ℕ, _-_, _≤_, _≡_, refl, sym, ap, _∙_, not, List, [], _∷_, arith, length, take, drop}
+use Rattle.laws.proofs.{ℕ, _-_, _≤_, _≡_, refl, sym, ap, _∙_, not, List, [], _∷_, arith, length, take, drop, replicate, length-replicate}
 use lib.Seq.{take-at}
 use Rattle.refusals.specs.{Refusal, Verdict, weighed, weighAll, smallest, Written, written, bufferAfter}
 use Rattle.table.specs.{longestTable, isTable, judged}
@@ -28,9 +28,16 @@ unfolding tableVerdict weighed decodable judged smallest weighAll isTable number
 no-table [] e = record { same = refl; weighs = refl }
 no-table (b ∷ table) e = absurd (omega arith)
 
--- what a table's bytes were decoded to, with room for the longest
-module _ (table numbers after : List ℕ) (decoded : Written) (long : length numbers ≡ longestTable)
-    (e : decoded ≡ written (decodable table (length numbers)) (numbersOf table)) (f : after ≡ bufferAfter (decodable table (length numbers)) (numbersOf table) numbers) where
+-- room for the longest table
+abbrev room : List ℕ
+room = replicate longestTable 0
+
+long : length room ≡ longestTable
+long = length-replicate {A = ℕ} longestTable 0
+
+-- what a table's bytes were decoded to
+module _ (table after : List ℕ) (decoded : Written) (e : decoded ≡ written (decodable table (length room)) (numbersOf table))
+    (f : after ≡ bufferAfter (decodable table (length room)) (numbersOf table) room) where
   told : decoded ≡ written (decodable table longestTable) (numbersOf table)
   told = e ∙ ap (λ (n : ℕ). written (decodable table n) (numbersOf table)) long
 
@@ -49,9 +56,9 @@ module _ (table numbers after : List ℕ) (decoded : Written) (long : length num
     unfolding bufferAfter
     front =
         ap (take (n - 0))
-        (f ∙ ap (λ (k : ℕ). bufferAfter (decodable table k) (numbersOf table) numbers) long
-        ∙ ap (λ (v : Verdict). bufferAfter v (numbersOf table) numbers) (counted .0))
-        ∙ take-at (numbersOf table) (drop (length (numbersOf table)) numbers) (n - 0) (omega (arith, counted .1))
+        (f ∙ ap (λ (k : ℕ). bufferAfter (decodable table k) (numbersOf table) room) long
+        ∙ ap (λ (v : Verdict). bufferAfter v (numbersOf table) room) (counted .0))
+        ∙ take-at (numbersOf table) (drop (length (numbersOf table)) room) (n - 0) (omega (arith, counted .1))
 
     pub table-lent : Lent table (take (n - 0) after)
     unfolding tableVerdict judged smallest weighAll

@@ -1,6 +1,5 @@
 -- `call_line::call` meets its contract: a T line by itself; of any other, a refused line decides, then bytes that are no numbers, and then the act.
-use Rattle.laws.proofs.{ℕ, sym, ap, _∙_, replicate, length-replicate, arith, needs}
-use Rattle.table.specs.{longestTable}
+use Rattle.laws.proofs.{sym, ap, _∙_, arith, needs}
 use Rattle.line_entry.specs.{Parsed}
 use Rattle.line.proofs.Columns.{column-named}
 use Rattle.call_line.specs.{refusedBy}
@@ -55,7 +54,7 @@ part-take-step-end-2 : tie.Need-part-take-step-end-2
 part-take-step-end-2 c =
     let t = c .before .before .before .before .before in
     let a = t .before .before .before .before .before .before .before .before .before .before .before .before .before .before .before .before .args in
-    omega (arith, table-few (a .table .now) (replicate longestTable 0) _ _ (length-replicate {A = ℕ} longestTable 0) (t .decode .ensures .0) (t .decode .ensures .1) _ (c .before .before .own2 .given .1))
+    omega (arith, table-few (a .table .now) _ _ (t .decode .ensures .0) (t .decode .ensures .1) _ (c .before .before .own2 .given .1))
 
 returns-5 : tie.Need-returns-5
 returns-5 c =
@@ -66,7 +65,7 @@ returns-5 c =
     let a = p .before .before .before .before .before .before .before .args in
     call-refused (a .statement .now) (a .table .now) (a .line .now) (a .out .now) _
     (table-decides _ _ _ _ (sym (p .parse .ensures) ∙ r .parsed .given .1 ∙ ap Parsed.Taken (e .entry .given .1)) _
-    (table-refused (a .table .now) (replicate longestTable 0) _ _ (length-replicate {A = ℕ} longestTable 0) (t .decode .ensures .0) (t .decode .ensures .1) _ (c .before .own .given .1)))
+    (table-refused (a .table .now) _ _ (t .decode .ensures .0) (t .decode .ensures .1) _ (c .before .own .given .1)))
 
 returns-6 : tie.Need-returns-6
 returns-6 c =
@@ -77,7 +76,7 @@ returns-6 c =
     let r = e .before .before .before in
     let p = r .before .before in
     let a = p .before .before .before .before .before .before .before .args in
-    let lent = table-lent (a .table .now) (replicate longestTable 0) _ _ (length-replicate {A = ℕ} longestTable 0) (t .decode .ensures .0) (t .decode .ensures .1) _ (o .own2 .given .1) in
+    let lent = table-lent (a .table .now) _ _ (t .decode .ensures .0) (t .decode .ensures .1) _ (o .own2 .given .1) in
     call-by (a .statement .now) (a .table .now) (a .line .now) (a .out .now) _ _
     (call-step (a .statement .now) (a .table .now) (a .line .now) (a .out .now) _ _ _ _
     (sym (p .parse .ensures) ∙ r .parsed .given .1 ∙ ap Parsed.Taken (e .entry .given .1)) lent (w .take-step2 .ensures))

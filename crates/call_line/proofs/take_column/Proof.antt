@@ -1,7 +1,6 @@
 -- `call_line::take_column` meets its contract: a line that is refused as a T line decides, then bytes that are no numbers, and then the column of the
 -- cells that were read.
-use Rattle.laws.proofs.{ℕ, refl, sym, _∙_, replicate, length-replicate, arith, needs}
-use Rattle.table.specs.{longestTable}
+use Rattle.laws.proofs.{refl, sym, _∙_, replicate, arith, needs}
 use Rattle.line.proofs.Columns.{column-refused, column-entered}
 use Rattle.table_grow.specs.{lineCells}
 use Rattle.table_grow.proofs.Cells.{Room, read-verdict, read-number, read-few, read-cells}
@@ -40,7 +39,7 @@ part-take-cells-end-3 : tie.Need-part-take-cells-end-3
 part-take-cells-end-3 c =
     let t = c .before .before .before .before .before in
     let a = t .before .before .before .before .before .before .before .before .before .before .before .before .args in
-    omega (arith, table-few (a .table .now) (replicate longestTable 0) _ _ (length-replicate {A = ℕ} longestTable 0) (t .decode .ensures .0) (t .decode .ensures .1) _ (c .before .before .own2 .given .1))
+    omega (arith, table-few (a .table .now) _ _ (t .decode .ensures .0) (t .decode .ensures .1) _ (c .before .before .own2 .given .1))
 
 part-take-cells-end-4 : tie.Need-part-take-cells-end-4
 part-take-cells-end-4 c =
@@ -66,7 +65,7 @@ returns-3 c =
     let clear = sym (read-verdict (has-read r)) ∙ told .enum-told .given .1 in
     gives-refused _ _ _ _
     (table-decides (a .statement .now) (a .table .now) (a .line .now) _ (column-entered (a .line .now) clear) _
-    (table-refused (a .table .now) (replicate longestTable 0) _ _ (length-replicate {A = ℕ} longestTable 0) (t .decode .ensures .0) (t .decode .ensures .1) _ (c .before .own .given .1)))
+    (table-refused (a .table .now) _ _ (t .decode .ensures .0) (t .decode .ensures .1) _ (c .before .own .given .1)))
 
 returns-4 : tie.Need-returns-4
 returns-4 c =
@@ -78,7 +77,7 @@ returns-4 c =
     let a = r .before .before .before .before .before .before .args in
     let read = has-read r in
     let clear = sym (read-verdict read) ∙ told .enum-told .given .1 in
-    let lent = table-lent (a .table .now) (replicate longestTable 0) _ _ (length-replicate {A = ℕ} longestTable 0) (t .decode .ensures .0) (t .decode .ensures .1) _ (o .own2 .given .1) in
+    let lent = table-lent (a .table .now) _ _ (t .decode .ensures .0) (t .decode .ensures .1) _ (o .own2 .given .1) in
     call-column (a .statement .now) (a .table .now) (a .line .now) (a .out .now) clear _ _ _ _ _ (read-number read clear) (read-cells read clear) lent
     (w .take-cells2 .ensures)
 
