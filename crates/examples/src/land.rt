@@ -145,10 +145,58 @@ fn mixed_hectare() {
     );
 }
 
+fn indigenous(species: u16, age: u16, basal_area: u32) -> Group {
+    group(species, Forest::Indigenous, age, basal_area)
+}
+
+// Document 02, item 1: "the greatest age among its N groups".
+fn oldest_stems() {
+    let young = indigenous(1, 12, 300);
+    let old = indigenous(1, 40, 100);
+    let middle = indigenous(1, 25, 200);
+    let totara = indigenous(2, 45, 50);
+    let radiata = group(3, Forest::Radiata(Region::Auckland), 60, 50);
+    say(b"\nIndigenous hectares:\n");
+    say_hectare(b"Kanuka of 12, 40 and 25 years", [young, old, middle]);
+    say_hectare(
+        b"Kanuka of 12 and 25 years, and totara of 45",
+        [young, middle, totara],
+    );
+    say_hectare(
+        b"Kanuka of 12 and 25 years, and radiata of 60",
+        [young, middle, radiata],
+    );
+}
+
+// The example of 4.5, in which regeneration began in 2001; it names no later seedlings.
+fn regenerated_hectare() {
+    say(
+        b"\nThe regenerated forest of the guide's section 4.5, with seedlings of 2001, 2004 and 2007:\n",
+    );
+    say_hectare(
+        b"At the start of 2008",
+        [
+            indigenous(1, 7, 50),
+            indigenous(1, 4, 200),
+            indigenous(1, 1, 100),
+        ],
+    );
+    say_hectare(
+        b"At the end of 2012",
+        [
+            indigenous(1, 12, 50),
+            indigenous(1, 9, 200),
+            indigenous(1, 6, 100),
+        ],
+    );
+}
+
 pub(crate) fn print_all() {
     single_stands();
     three_stands();
     replanted_stands();
     predominant_species();
     mixed_hectare();
+    oldest_stems();
+    regenerated_hectare();
 }

@@ -1,4 +1,5 @@
 pub mod Determined
+pub mod Examples
 pub mod Gathering
 pub mod Judged
 pub mod Refused

@@ -2,8 +2,9 @@
 use Rattle.laws.specs.{ℕ, Bool, not, _&&_, _||_, List, [], _∷_, eqb, ltb, length, some}
 use Rattle.refusals.specs.{Verdict, Case, _⇒_, smallest, Refusal}
 use Rattle.forest.specs.{Forest}
-use Rattle.land_groups.specs.{Group, mostGroups, ofSpecies, ofType, meanAge}
+use Rattle.land_groups.specs.{Group, mostGroups, ofSpecies, ofType}
 use Rattle.land_predominance.specs.{predominantOf}
+use Rattle.land_ages.specs.{hectareAge}
 use Rattle.land_trees.specs.declared.Faults.{Faults}
 use Rattle.land_trees.specs.declared.Hectare.{Hectare}
 
@@ -43,10 +44,10 @@ cases count bare gs =
     ∷ faultsOf gs .«two_types» ⇒ Refusal.TreeList
     ∷ []
 
--- "Its type is the hectare's": the predominant species'
+-- "Its type is the hectare's": the predominant species', by which the age is found
 unfoldable pub answerOf : Verdict → List Group → Hectare
 answerOf (Verdict.Refused refusal) gs = Hectare.Turned refusal
-answerOf Verdict.Accepted gs = Hectare.Of (predominantOf gs .forest) (meanAge gs (predominantOf gs .forest))
+answerOf Verdict.Accepted gs = Hectare.Of (predominantOf gs .forest) (hectareAge gs (predominantOf gs .forest))
 
 unfoldable pub heldOf : ℕ → Bool → List Group → Hectare
 heldOf count bare gs = answerOf (smallest (cases count bare gs)) gs

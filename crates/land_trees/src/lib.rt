@@ -113,7 +113,7 @@ fn type_and_age(found: Gathered, count: usize) -> Hectare
     let groups = found.groups;
     let leader = land_predominance::predominant(groups, count);
     let forest = leader.forest;
-    let age = land_groups::mean_age(groups, count, forest) as u16;
+    let age = land_ages::hectare_age(groups, count, leader) as u16;
     Hectare::Of { forest, age }
 }
 

@@ -12,10 +12,11 @@ use Rattle.line_entry.specs.{letterIn, parsed, addRule}
 use Rattle.line.specs.{bodyOf, letterOf, ruleOf, lineRule, conditions, entryOf}
 use Rattle.land_groups.specs.{speciesArea, weightsOf, halfUp, meanAge}
 use Rattle.land_predominance.specs.{leading, predominantOf}
+use Rattle.land_ages.specs.{hectareAge}
 use Rattle.land_trees.specs.{faultsOf, cases, answerOf, heldOf, hectareOf}
 use Rattle.theorem_marked.specs.{Every, marked}
 
 pub marked-hold : Every marked
-unfolding some sumBy tenthsOf tonnes nearestTonne weighed weighAll smallest beside letterNames named shareAfter extend split append more headed numberIn widthTo holds withDecimals decimalIn hectaresIn letterIn parsed addRule bodyOf letterOf ruleOf lineRule conditions entryOf speciesArea weightsOf halfUp meanAge leading predominantOf faultsOf cases answerOf heldOf hectareOf
+unfolding some sumBy tenthsOf tonnes nearestTonne weighed weighAll smallest beside letterNames named shareAfter extend split append more headed numberIn widthTo holds withDecimals decimalIn hectaresIn letterIn parsed addRule bodyOf letterOf ruleOf lineRule conditions entryOf speciesArea weightsOf halfUp meanAge leading predominantOf hectareAge faultsOf cases answerOf heldOf hectareOf
 marked-hold =
     (refl, (refl, (refl, (refl, (refl, (refl, (refl, (refl, (refl, (refl, (refl, (refl, (refl, (refl, tt))))))))))))))

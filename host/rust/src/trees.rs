@@ -35,7 +35,12 @@ pub fn hectare(groups: &[Group]) -> Result<Hectare, Refusal> {
         *total += group.basal_area;
     }
     let forest = predominant(&species).ok_or(Refusal::TreeList)?;
-    Ok(Hectare { forest, age: mean_age(groups, forest) })
+    let of_the_type: Vec<&Group> = groups.iter().filter(|group| group.forest == Some(forest)).collect();
+    let age = match forest {
+        Forest::Indigenous => greatest_age(&of_the_type),
+        _ => mean_age(&of_the_type),
+    };
+    Ok(Hectare { forest, age })
 }
 
 fn in_range(group: &Group) -> bool {
@@ -53,11 +58,15 @@ fn predominant(species: &BTreeMap<u16, (Forest, u64)>) -> Option<Forest> {
     greatest.map(|(forest, _)| forest)
 }
 
-/// Weighted by basal area over all groups of the type, rounded half up.
-fn mean_age(groups: &[Group], forest: Forest) -> u64 {
-    let of_the_type = groups.iter().filter(|group| group.forest == Some(forest));
+/// Regrowth is dated by its oldest stem.
+fn greatest_age(groups: &[&Group]) -> u64 {
+    groups.iter().map(|group| group.age).max().unwrap_or(0)
+}
+
+/// Weighted by basal area, rounded half up.
+fn mean_age(groups: &[&Group]) -> u64 {
     let (mut weighted, mut total) = (0, 0);
-    for group in of_the_type {
+    for group in groups {
         weighted += group.age * group.basal_area;
         total += group.basal_area;
     }

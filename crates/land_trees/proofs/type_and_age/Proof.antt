@@ -15,12 +15,12 @@ returns c =
 cast-age : tie.Need-cast-age
 cast-age c =
     let j = c .before .before .before .before .before in
-    omega (arith, age-at-most _ _ _ _ (j .judge .ensures) _ _ (c .before .before .before .enum-told .given .1) (c .before .predominant .ensures) (c .mean-age .ensures))
+    omega (arith, age-at-most _ _ _ _ (j .judge .ensures) _ _ (c .before .before .before .enum-told .given .1) (c .before .predominant .ensures) (c .hectare-age .ensures))
 
 returns-2 : tie.Need-returns-2
 returns-2 c =
     let j = c .before .before .before .before .before in
-    when-clear _ _ _ _ (j .judge .ensures) _ _ (c .before .before .before .enum-told .given .1) (c .before .predominant .ensures) (c .mean-age .ensures)
+    when-clear _ _ _ _ (j .judge .ensures) _ _ (c .before .before .before .enum-told .given .1) (c .before .predominant .ensures) (c .hectare-age .ensures)
 
 pub type-and-age-spec : {M : Type 1} → Rattle.land_trees.proofs.type_and_age.Statement.statement M
 type-and-age-spec = tie.close (tie.spec (λ c κs. search needs) (λ c. search needs) returns (λ c. search needs) (λ c κs. search needs)

@@ -36,6 +36,40 @@ fn the_predominant_species_is_summed_and_the_lower_on_a_tie() {
     assert_eq!(hectare(&regions), Ok(Hectare { forest: NORTHLAND, age: 10 }));
 }
 
+/// Document 02, item 1, and the regenerated forest of the guide, section 4.5.
+#[test]
+fn indigenous_hectares_by_their_oldest_stem() {
+    let indigenous = |species, age, basal_area| group(species, Forest::Indigenous, age, basal_area);
+    let age_of = |groups: &[Group]| {
+        let found = hectare(groups).unwrap();
+        assert_eq!(found.forest, Forest::Indigenous);
+        found.age
+    };
+    assert_eq!(age_of(&[indigenous(1, 12, 300), indigenous(1, 40, 100), indigenous(1, 25, 200)]), 40);
+    assert_eq!(age_of(&[indigenous(1, 20, 500), indigenous(1, 25, 100), indigenous(2, 45, 50)]), 45);
+    assert_eq!(age_of(&[indigenous(1, 15, 500), indigenous(1, 30, 100), group(2, NORTHLAND, 60, 50)]), 30);
+    assert_eq!(age_of(&[indigenous(1, 0, 1)]), 0);
+    assert_eq!(age_of(&[indigenous(1, 1, 1_000_000), indigenous(2, 300, 1)]), 300);
+    for year in [2008, 2013] {
+        let seedlings = [2007, 2004, 2001].map(|regenerated| indigenous(1, year - regenerated, 100));
+        assert_eq!(age_of(&seedlings), year - 2001);
+    }
+}
+
+#[test]
+fn other_hectares_by_their_mean() {
+    for forest in [NORTHLAND, Forest::DouglasFir, Forest::Softwoods, Forest::Hardwoods] {
+        let mixed = [group(1, forest, 12, 300), group(1, forest, 40, 100), group(2, forest, 25, 200)];
+        assert_eq!(hectare(&mixed), Ok(Hectare { forest, age: 21 }));
+    }
+    let beside_kanuka = [
+        group(1, Forest::Hardwoods, 12, 300),
+        group(2, Forest::Hardwoods, 9, 100),
+        group(3, Forest::Indigenous, 90, 50),
+    ];
+    assert_eq!(hectare(&beside_kanuka), Ok(Hectare { forest: Forest::Hardwoods, age: 11 }));
+}
+
 #[test]
 fn tree_lists_that_are_refused() {
     let one = group(1, NORTHLAND, 300, 1_000_000);

@@ -1,0 +1,2 @@
+pub mod ByType
+pub mod Oldest

@@ -1,0 +1,3 @@
+pub mod Ages
+pub use Ages.{olderAge}
+unfoldable pub use Ages.{greatestAge, hectareAge}
