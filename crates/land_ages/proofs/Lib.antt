@@ -1,2 +1,3 @@
 pub mod ByType
 pub mod Oldest
+pub mod Turns

@@ -1,3 +1,3 @@
 pub mod Ages
-pub use Ages.{olderAge}
+pub use Ages.{ageIf}
 unfoldable pub use Ages.{greatestAge, hectareAge}

@@ -3,9 +3,10 @@ use forest::Forest;
 use land_groups::Group;
 use land_groups::MOST_GROUPS;
 ghost use mathlib.Core.Path.{_≡_};
+ghost use Prim.Native.Nat.{max};
 ghost use lib.ListN.{take};
 ghost use Rattle.land_groups.specs.{ofType};
-ghost use Rattle.land_ages.specs.{olderAge, greatestAge, hectareAge};
+ghost use Rattle.land_ages.specs.{ageIf, greatestAge, hectareAge};
 
 fn of_its_type(leader: Group, g: Group) -> bool
     ensures { λ r. ⌜ r ≡ ofType (leader .forest) g ⌝ }
@@ -15,9 +16,9 @@ fn of_its_type(leader: Group, g: Group) -> bool
     forest::same(f, k)
 }
 
-// The older of an age and a group's where the group is of the leader's type, else the age.
+// The greater of an age and a group's where the group is of the leader's type, else the age.
 fn older_age(leader: Group, age: u16, g: Group) -> u16
-    ensures { λ r. ⌜ r ≡ olderAge (leader .forest) age g ⌝ }
+    ensures { λ r. ⌜ r ≡ max age (ageIf (leader .forest) g) ⌝ }
 {
     if of_its_type(leader, g) & (age < g.age) {
         return g.age;
@@ -25,7 +26,7 @@ fn older_age(leader: Group, age: u16, g: Group) -> u16
     age
 }
 
-// The greatest age among the groups of the leader's type, 0 where there is none.
+// The greatest age among the groups of the leader's type, nought where there is none.
 fn greatest_age(groups: [Group; MOST_GROUPS], count: usize, leader: Group) -> u16
     ensures { λ r. ⌜ r ≡ greatestAge (take count groups) (leader .forest) ⌝ }
 {

@@ -1,5 +1,5 @@
 -- Hectares by the rule of their type, by computation: document 02's item 1, and the guide's regenerated forest (002, 4.5).
-use Rattle.laws.proofs.{ℕ, _≡_, refl, List, [], _∷_}
+use Rattle.laws.proofs.{ℕ, _-_, _≡_, refl, List, [], _∷_}
 use Rattle.laws.specs.{some, sumBy}
 use Rattle.refusals.specs.{weighed, weighAll, smallest}
 use Rattle.forest.specs.{Forest, Region}
@@ -11,9 +11,9 @@ use Rattle.land_trees.specs.{faultsOf, cases, answerOf, heldOf, hectareO
 abbrev group : ℕ → Forest → ℕ → ℕ → Group
 group species forest age area = record { species = species; forest = forest; age = age; «basal_area» = area }
 
--- seedlings of 2001, when regeneration began, of 2004 and of 2007, in a later year
-abbrev regenerated : ℕ → ℕ → ℕ → List Group
-regenerated first second third = group 1 Forest.Indigenous third 100 ∷ group 1 Forest.Indigenous second 200 ∷ group 1 Forest.Indigenous first 50 ∷ []
+-- in a later year, seedlings of 2001, when regeneration began, of 2004 and of 2007
+abbrev regenerated : ℕ → List Group
+regenerated year = group 1 Forest.Indigenous (year - 2001) 50 ∷ group 1 Forest.Indigenous (year - 2004) 200 ∷ group 1 Forest.Indigenous (year - 2007) 100 ∷ []
 
 abbrev examples : List (List Group × Hectare)
 examples =
@@ -27,8 +27,8 @@ examples =
     -- N does not predominate, and its stems do not count, however old
     ∷ (group 1 Forest.ExoticHardwoods 12 300 ∷ group 2 Forest.ExoticHardwoods 9 100 ∷ group 3 Forest.Indigenous 90 50 ∷ [], Hectare.Of Forest.ExoticHardwoods 11)
     -- "2008 − 2001 = 7 years" and "2013 − 2001 = 12 years"; the later seedlings are ours
-    ∷ (regenerated 7 4 1, Hectare.Of Forest.Indigenous 7)
-    ∷ (regenerated 12 9 6, Hectare.Of Forest.Indigenous 12)
+    ∷ (regenerated 2008, Hectare.Of Forest.Indigenous 7)
+    ∷ (regenerated 2013, Hectare.Of Forest.Indigenous 12)
     ∷ []
 
 unfoldable pub AllHold : List (List Group × Hectare) → Type 0

@@ -1,15 +1,15 @@
 -- `land_ages::older_age` meets its contract: another age than the one so far is taken where it is greater and its group is of the type.
-use Rattle.laws.proofs.{ℕ, max, Bool, true, false, cond, _&&_, _≡_, refl, arith, needs, ltb, ltb-true, ltb-false}
+use Rattle.laws.proofs.{ℕ, max, Bool, true, false, cond, _&&_, _≡_, arith, needs, ltb, ltb-true, ltb-false}
 use Rattle.land_ages.proofs.older_age.Tie as tie
 
 module _ (age other : ℕ) where
-  taken : (counts : Bool) → (counts && ltb age other) ≡ true → other ≡ cond counts (max age other) age
+  taken : (counts : Bool) → (counts && ltb age other) ≡ true → other ≡ max age (cond counts other 0)
   taken true e = let z = ltb-true age other e in omega arith
   taken false e = absurd (let z : _≡_ {A = ℕ} 0 1 = cc in omega arith)
 
-  left : (counts : Bool) → (counts && ltb age other) ≡ false → age ≡ cond counts (max age other) age
+  left : (counts : Bool) → (counts && ltb age other) ≡ false → age ≡ max age (cond counts other 0)
   left true e = let z = ltb-false age other e in omega arith
-  left false e = refl
+  left false e = omega arith
 
 returns : tie.Need-returns
 returns c =
