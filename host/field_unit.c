@@ -1,10 +1,13 @@
 /* A recorder's program: keeps an owner's statement and table in two files, and takes the lines of standard input.
  *
  *   field_unit STATEMENT TABLE < lines
+ *   field_unit --foot STATEMENT
  *
  * A file that is not there yet is the empty holding, or no table. For each line it prints the line's number and what
- * came of it, once that is kept: what was answered outlasts a loss of power. Ends with 0 where every line was taken,
- * 1 where one was refused, 2 where a file could not be read or kept, or no answer given.
+ * came of it, once that is kept: what was answered outlasts a loss of power. With --foot it prints the foot of the
+ * statement alone: units received, units surrendered and balance over all areas. Ends with 0 where every line was taken
+ * or the foot was printed, 1 where a line or the statement was refused, 2 where a file could not be read or kept, or no
+ * answer given.
  */
 #define _POSIX_C_SOURCE 200809L
 #include "carbon_account.h"
@@ -17,6 +20,8 @@
 #include <stdlib.h>
 #include <string.h>
 #include <unistd.h>
+
+static const char empty_holding[] = "H,0\n";
 
 struct kept {
     const char *path;
@@ -137,24 +142,53 @@ static int take(struct kept *statement, struct kept *table, const char *line, si
     return 1;
 }
 
-int main(int count, char **words)
+static void flush_answer(void)
 {
-    if (count != 3) {
-        fprintf(stderr, "usage: field_unit STATEMENT TABLE < lines\n");
-        return 2;
-    }
+    if (fflush(stdout) != 0)
+        fail("standard output", strerror(errno));
+}
+
+/* Whether every line was taken. */
+static int take_lines(const char *statement_path, const char *table_path)
+{
     static struct kept statement, table;
-    load(&statement, words[1], "H,0\n");
-    load(&table, words[2], "");
+    load(&statement, statement_path, empty_holding);
+    load(&table, table_path, "");
     int all_taken = 1;
     char *line = NULL;
     size_t room = 0;
     ssize_t length;
     for (unsigned long number = 1; (length = getline(&line, &room, stdin)) > 0; number++) {
         all_taken &= take(&statement, &table, line, (size_t)length, number);
-        if (fflush(stdout) != 0)
-            fail("standard output", strerror(errno));
+        flush_answer();
     }
     free(line);
-    return all_taken ? 0 : 1;
+    return all_taken;
+}
+
+/* Whether the statement has a foot. */
+static int print_foot(const char *statement_path)
+{
+    static struct kept statement;
+    load(&statement, statement_path, empty_holding);
+    uint8_t foot[CARBON_FOOT_BYTES];
+    int64_t answer = carbon_foot(statement.bytes, statement.length, foot, sizeof foot);
+    if (answer < 0) {
+        fprintf(stderr, "field_unit: %s: refused (%" PRId64 "): %s\n", statement_path, -answer, in_words(-answer));
+        return 0;
+    }
+    printf("%.*s", (int)answer, (const char *)foot);
+    flush_answer();
+    return 1;
+}
+
+int main(int count, char **words)
+{
+    if (count != 3) {
+        fprintf(stderr, "usage: field_unit STATEMENT TABLE < lines, or field_unit --foot STATEMENT\n");
+        return 2;
+    }
+    int foot_alone = strcmp(words[1], "--foot") == 0;
+    int taken = foot_alone ? print_foot(words[2]) : take_lines(words[1], words[2]);
+    return taken ? 0 : 1;
 }

@@ -1,4 +1,4 @@
-/* The call on guarded memory: the inputs stand in pages that cannot be written, and every buffer stands flush against a
+/* The calls on guarded memory: the inputs stand in pages that cannot be written, and every buffer stands flush against a
  * page that cannot be touched. Each call is made twice, flush at the end and flush at the start, and must give the same. */
 #ifndef GUARDED_H
 #define GUARDED_H
@@ -11,7 +11,7 @@ struct bytes {
     size_t length;
 };
 
-/* What the call answered, and what stands in the output. */
+/* What a call answered, and what stands in the output. */
 struct answer {
     int64_t value;
     const uint8_t *out;
@@ -19,7 +19,8 @@ struct answer {
 
 struct bytes text(const char *characters);
 
-/* Ends the test program where the call touched bytes that are not its own: past the result, or any on a refusal. */
+/* Both end the test program where the call touched bytes that are not its own: past the result, or any on a refusal. */
 struct answer guarded_call(struct bytes statement, struct bytes table, struct bytes line, size_t room);
+struct answer guarded_foot(struct bytes statement, size_t room);
 
 #endif

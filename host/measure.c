@@ -1,5 +1,6 @@
 /* How much one call costs. A HOLDING is empty, small (1x4), full (16x16), or so many areas of so many sub-areas each: 4x16.
  *   measure HOLDING LINE TIMES   makes the holding, then makes the call that many times; callgrind counts from outside
+ *   measure HOLDING foot TIMES   the same with the call of the foot
  *   measure length HOLDING       prints the length of its statement
  *   measure stack AREAS          prints the deepest stack of calls on so many areas of sixteen sub-areas
  */
@@ -21,7 +22,7 @@ static uint8_t out[CARBON_OUT_BYTES];
 
 static int usage(void)
 {
-    fprintf(stderr, "measure HOLDING LINE TIMES, measure length HOLDING, or measure stack AREAS\n");
+    fprintf(stderr, "measure HOLDING LINE|foot TIMES, measure length HOLDING, or measure stack AREAS\n");
     return 2;
 }
 
@@ -33,6 +34,11 @@ static int64_t call_into(const char *line, size_t room)
 static int64_t call(const char *line)
 {
     return call_into(line, sizeof out);
+}
+
+static int64_t foot_into(size_t room)
+{
+    return carbon_foot(statement, statement_len, out, room);
 }
 
 static void want(const char *line, bool wanted, int64_t answer)
@@ -72,6 +78,14 @@ static void call_measured(const char *line)
     want(line, taken == written, taken);
 }
 
+static void foot_measured(void)
+{
+    int64_t written = foot_into(CARBON_FOOT_BYTES);
+    want("foot", written > 0, written);
+    int64_t refused = foot_into((size_t)written - 1);
+    want("foot", refused == -CARBON_ROOM, refused);
+}
+
 static void take_measured(const char *line)
 {
     call_measured(line);
@@ -105,13 +119,14 @@ static bool make_named(const char *name)
     return true;
 }
 
-/* T on the empty holding, A and S to fill it, and each other letter on its last area. */
+/* T on the empty holding, A and S to fill it, the foot, and each other letter on its last area. */
 static void *deepest(void *areas)
 {
     static const char *const lines[] = {"C,%d,%d,2012", "P,%d,%d,D,2012", "R,%d,2014", "W,%d"};
     int last = *(const int *)areas;
     call_measured("T,G,P,1");
     make_holding(last, MOST_SUBS, take_measured);
+    foot_measured();
     for (size_t i = 0; i < sizeof lines / sizeof *lines; i++) {
         char line[64];
         snprintf(line, sizeof line, lines[i], last, MOST_SUBS);
@@ -163,8 +178,9 @@ static int make_calls(const char *holding, const char *line, int times)
 {
     if (!make_named(holding))
         return usage();
+    bool foot = strcmp(line, "foot") == 0;
     while (times-- > 0) {
-        int64_t answer = call(line);
+        int64_t answer = foot ? foot_into(sizeof out) : call(line);
         want(line, answer > 0, answer);
     }
     return 0;

@@ -1,5 +1,5 @@
-/* The call against document 01: its printed case line by line, every refusal that the call can give, and the room of the
- * output. Damaged input is tried by test_damage.c. */
+/* The calls against documents 01 and 02: the printed case line by line with the foot after each, every refusal that a
+ * call can give, and the room of the output. Damaged input is tried by test_damage.c. */
 #include "carbon_account.h"
 #include "guarded.h"
 #include "test_damage.h"
@@ -27,22 +27,31 @@ static bool is_text(struct answer answer, const char *statement, const char *rep
            memcmp(answer.out + first, report, second) == 0;
 }
 
+static bool is_foot(const char *statement, const char *foot)
+{
+    return is_text(guarded_foot(text(statement), CARBON_FOOT_BYTES), foot, "");
+}
+
 struct step {
     const char *line;
     const char *statement;
     const char *report;
+    const char *foot;
 };
 
 static const struct step printed_case[] = {
-    {"A,7,2010\n", "H,1\nA,7,2010,2010,0,0,0,0,0,0,0\n", ""},
-    {"S,7,1,10.04,D,2008\n", "H,1\nA,7,2010,2010,0,0,0,45000,0,0,1\nS,1,100,D,2008,B,0,0\n", ""},
-    {"R,7,2010\n", "H,1\nA,7,2010,2011,0,0,1,100000,55,0,1\nS,1,100,D,2008,B,0,0\n", "R,7,2010,2010,55,55,0,55\n"},
-    {"C,7,1,2011\n", "H,1\nA,7,2010,2011,2011,0,1,100000,55,0,1\nS,1,100,B,0,D,3,2011\n", ""},
-    {"P,7,1,D,2011\n", "H,1\nA,7,2010,2011,2011,0,1,100000,55,0,1\nS,1,100,D,2011,D,3,2011\n", ""},
-    {"R,7,2012\n", "H,1\nA,7,2010,2013,2011,0,2,85000,55,15,1\nS,1,100,D,2011,D,3,2011\n", "R,7,2011,2012,-15,0,15,40\n"},
-    {"R,7,2013\n", "H,1\nA,7,2010,2014,2011,0,3,135000,105,15,1\nS,1,100,D,2011,D,3,2011\n", "R,7,2013,2013,50,50,0,90\n"},
-    {"C,7,2,2014\n", NULL, NULL},
-    {"W,7", "H,1\nA,7,2010,2014,2011,1,3,135000,105,105,1\nS,1,100,D,2011,D,3,2011\n", "W,7,90\n"},
+    {"A,7,2010\n", "H,1\nA,7,2010,2010,0,0,0,0,0,0,0\n", "", "F,0,0,0\n"},
+    {"S,7,1,10.04,D,2008\n", "H,1\nA,7,2010,2010,0,0,0,45000,0,0,1\nS,1,100,D,2008,B,0,0\n", "", "F,0,0,0\n"},
+    {"R,7,2010\n", "H,1\nA,7,2010,2011,0,0,1,100000,55,0,1\nS,1,100,D,2008,B,0,0\n", "R,7,2010,2010,55,55,0,55\n",
+     "F,55,0,55\n"},
+    {"C,7,1,2011\n", "H,1\nA,7,2010,2011,2011,0,1,100000,55,0,1\nS,1,100,B,0,D,3,2011\n", "", "F,55,0,55\n"},
+    {"P,7,1,D,2011\n", "H,1\nA,7,2010,2011,2011,0,1,100000,55,0,1\nS,1,100,D,2011,D,3,2011\n", "", "F,55,0,55\n"},
+    {"R,7,2012\n", "H,1\nA,7,2010,2013,2011,0,2,85000,55,15,1\nS,1,100,D,2011,D,3,2011\n", "R,7,2011,2012,-15,0,15,40\n",
+     "F,55,15,40\n"},
+    {"R,7,2013\n", "H,1\nA,7,2010,2014,2011,0,3,135000,105,15,1\nS,1,100,D,2011,D,3,2011\n", "R,7,2013,2013,50,50,0,90\n",
+     "F,105,15,90\n"},
+    {"C,7,2,2014\n", NULL, NULL, NULL},
+    {"W,7", "H,1\nA,7,2010,2014,2011,1,3,135000,105,105,1\nS,1,100,D,2011,D,3,2011\n", "W,7,90\n", "F,105,105,0\n"},
 };
 
 static const uint8_t one_column[] = {0, 0, 5, 0, 0, 0, 0, 0, 0, 0, 0, 0, 0, 0, 0, 0, 0, 0, 0, 0,
@@ -70,6 +79,7 @@ static void test_printed_case(void)
             expect(answer.value == -CARBON_SUB_UNKNOWN, step.line);
         } else {
             expect(is_text(answer, step.statement, step.report), step.line);
+            expect(is_foot(step.statement, step.foot), step.foot);
             statement = text(step.statement);
         }
     }
@@ -163,6 +173,38 @@ static void test_room(void)
     test_room_of(SIXTEEN_SUBS, "W,7\n");
 }
 
+#define OLDEST_AREA(number) "A," #number ",2008,2200,0,0,192,0,192000000000,96000000000,0\n"
+#define OLDEST_FOUR(first, second, third, fourth) \
+    OLDEST_AREA(first) OLDEST_AREA(second) OLDEST_AREA(third) OLDEST_AREA(fourth)
+#define LONGEST_FOOT_OF                                                                                      \
+    "H,16\n" OLDEST_FOUR(1, 2, 3, 4) OLDEST_FOUR(5, 6, 7, 8) OLDEST_FOUR(9, 10, 11, 12) \
+        OLDEST_FOUR(13, 14, 15, 16)
+#define ONE_WITHDRAWN "H,2\nA,7,2010,2011,0,1,1,0,5,5,0\nA,8,2010,2011,0,0,1,0,30,10,0\n"
+
+static void test_foot(const char *statement, const char *foot)
+{
+    size_t need = strlen(foot);
+    for (size_t room = 0; room < need; room++)
+        expect(guarded_foot(text(statement), room).value == -CARBON_ROOM, "too little room for a foot is 8");
+    for (size_t room = need; room < need + 9; room++)
+        expect(is_text(guarded_foot(text(statement), room), foot, ""), foot);
+}
+
+static void test_feet(void)
+{
+    static const char longest[] = "F,3072000000000,1536000000000,1536000000000\n";
+    static const char *const none[] = {"", "H,0", "H,0\n\n", "H,1\n", "H,1\nA,7,2010,2011,0,1,1,0,5,4,0\n", longest};
+    expect(strlen(longest) == CARBON_FOOT_BYTES, "the room for a foot is that of the longest");
+    test_foot("H,0\n", "F,0,0,0\n");
+    test_foot(FILED, "F,55,0,55\n");
+    test_foot(ONE_WITHDRAWN, "F,35,15,20\n");
+    test_foot(LONGEST_FOOT_OF, longest);
+    for (size_t i = 0; i < sizeof none / sizeof none[0]; i++) {
+        expect(guarded_foot(text(none[i]), CARBON_FOOT_BYTES).value == -CARBON_STATEMENT, "what is no statement has no foot");
+        expect(guarded_foot(text(none[i]), 0).value == -CARBON_STATEMENT, "without room the same refusal");
+    }
+}
+
 static void test_long_lines(void)
 {
     static uint8_t line[1030];
@@ -180,12 +222,13 @@ int main(void)
     test_printed_case();
     test_refusals();
     test_room();
+    test_feet();
     test_long_lines();
     test_damage();
     if (failures > 0) {
-        printf("the call: %d do not hold\n", failures);
+        printf("the calls: %d do not hold\n", failures);
         return 1;
     }
-    printf("the call: all hold\n");
+    printf("the calls: all hold\n");
     return 0;
 }

@@ -2,6 +2,7 @@
 #include "carbon_account.h"
 #include "guarded.h"
 
+#include <inttypes.h>
 #include <stdio.h>
 #include <string.h>
 
@@ -83,6 +84,35 @@ static void file_on_statement(struct bytes statement)
     expect(value > 0 || is_one_of(value, may_be, sizeof may_be / sizeof may_be[0]), "a return on a damaged statement");
 }
 
+/* The foot that the two fields of a statement of one area make. */
+static void write_foot(struct bytes statement, char *foot, size_t room)
+{
+    char copy[129];
+    uint64_t received = 0, surrendered = 0;
+    memcpy(copy, statement.at, statement.length);
+    copy[statement.length] = '\0';
+    int found = sscanf(copy,
+                       "H,1 A,%*[0-9],%*[0-9],%*[0-9],%*[0-9],%*[0-9],%*[0-9],%*[0-9],%" SCNu64 ",%" SCNu64,
+                       &received, &surrendered);
+    expect(found == 2, "a statement that is read has one area");
+    snprintf(foot, room, "F,%" PRIu64 ",%" PRIu64 ",%" PRIu64 "\n", received, surrendered, received - surrendered);
+}
+
+/* A damaged statement has a foot just where a line would be taken on it. */
+static void foot_of_statement(struct bytes statement)
+{
+    char foot[CARBON_FOOT_BYTES + 1];
+    int64_t opened = guarded_call(statement, no_table, text("A,900,2199"), CARBON_OUT_BYTES).value;
+    struct answer answer = guarded_foot(statement, CARBON_FOOT_BYTES);
+    if (opened == -CARBON_STATEMENT) {
+        expect(answer.value == opened, "what is no statement for a line is none for the foot");
+        return;
+    }
+    write_foot(statement, foot, sizeof foot);
+    expect(answer.value == (int64_t)strlen(foot) && memcmp(answer.out, foot, strlen(foot)) == 0,
+           "the foot of a damaged statement");
+}
+
 static unsigned number_at(struct bytes table, size_t index)
 {
     return table.at[2 * index] + 256u * table.at[2 * index + 1];
@@ -129,6 +159,7 @@ void test_damage(void)
     struct bytes statement = text(small_statement), line = text(small_line);
     in_every_way(statement.at, statement.length, open_beside);
     in_every_way(statement.at, statement.length, file_on_statement);
+    in_every_way(statement.at, statement.length, foot_of_statement);
     in_every_way(small_table, sizeof small_table, file_on_table);
     in_every_way(line.at, line.length, enter_line);
 }

@@ -1,4 +1,5 @@
-/* The carbon accounts of forest land: the one call of the proved engine (libengine.a, x86-64 Linux).
+/* The carbon accounts of forest land: the two calls of the proved engine (libengine.a, x86-64 Linux).
+ * carbon_account_line takes a line of the book, and carbon_foot gives the foot of the listing.
  *
  * A recorder keeps two things for an owner, as bytes:
  *   - the statement: the whole holding as lines of text. The holding without areas is "H,0\n", and not no bytes;
@@ -24,17 +25,19 @@
 extern "C" {
 #endif
 
-/* Room for any statement, table, line with its end, and for all that the call writes: it is proved that none is longer.
- * The call writes 11921 bytes at most, and into CARBON_OUT_BYTES it writes without measuring first.
- * The deepest stack that was measured of a call is 9720 bytes, and it does not grow with the areas. */
+/* Room for any statement, table, line with its end, and for all that a call writes: it is proved that none is longer.
+ * carbon_account_line writes 11921 bytes at most, and into CARBON_OUT_BYTES it writes without measuring first.
+ * carbon_foot writes CARBON_FOOT_BYTES at most: "F," and three numbers of 13 digits, each with the byte that ends it.
+ * The deepest stack that was measured of a call is 9784 bytes, and it does not grow with the areas. */
 enum {
     CARBON_STATEMENT_BYTES = 11861,
     CARBON_TABLE_BYTES = 2040,
     CARBON_LINE_BYTES = 1025,
-    CARBON_OUT_BYTES = 15888
+    CARBON_OUT_BYTES = 15888,
+    CARBON_FOOT_BYTES = 44
 };
 
-/* Why a line is refused. 7, 9 and 10 are about tree lists and parcels, and no answer of this call. */
+/* Why a call refuses. 7, 9 and 10 are about tree lists and parcels, and no answer of these calls. */
 enum carbon_refusal {
     CARBON_FORM = 1,              /* wrong letter, T kind, field count or form; byte 10 before the line's end; over 1024 bytes */
     CARBON_NUMBER = 2,            /* area not 1 to 999, or sub-area not 1 to 99 */
@@ -86,6 +89,24 @@ int64_t carbon_account_line(const uint8_t *statement, size_t statement_length,
                             const uint8_t *table, size_t table_length,
                             const uint8_t *line, size_t line_length,
                             uint8_t *out, size_t out_length);
+
+/* Gives the foot of a statement: what `book` prints before its last line for a book that leads to the statement.
+ *
+ * statement: what is handed in. It is only read.
+ * out: where the foot is written, out_length bytes long. CARBON_FOOT_BYTES are always enough.
+ *
+ * The foot is the line F,received,surrendered,balance and byte 10: the units received and surrendered and the balance
+ * over all areas, withdrawn ones too. Received less surrendered is the balance. The foot of "H,0\n" is "F,0,0,0\n".
+ *
+ * The answer is the count of bytes written from the start of `out`; it is greater than 0. Bytes of `out` past the count
+ * are untouched. Where the bytes handed in are no statement it is -CARBON_STATEMENT; else, where `out` is shorter than
+ * the line, it is -CARBON_ROOM. Then nothing is written.
+ *
+ * What the caller sees to is what it sees to above: both pointers are valid for their lengths and not NULL, `out` does
+ * not overlap the statement, and nobody writes to either during the call. It keeps nothing between calls, and always
+ * returns.
+ */
+int64_t carbon_foot(const uint8_t *statement, size_t statement_length, uint8_t *out, size_t out_length);
 
 #ifdef __cplusplus
 }

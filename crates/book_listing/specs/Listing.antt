@@ -9,6 +9,7 @@ use Rattle.step_outcome.specs.{Outcome, turnedBack, accepted, answered, placed,
 use Rattle.step.specs.{applied}
 use Rattle.table_grow.specs.{growable, longerBy}
 use Rattle.book_print.specs.{reportText, refusalText, endText}
+use Rattle.book_foot.specs.{footOf}
 use Rattle.book_listing.specs.Lines.{linesOf}
 
 -- what an accepted T line comes to, where so many areas stand: "T .. extends the table", and the holding stays
@@ -85,9 +86,9 @@ unfoldable pub printedFrom : Run → List (List ℕ) → List ℕ
 printedFrom run [] = []
 printedFrom run (line ∷ lines) = printed run line ++ printedFrom (next run line) lines
 
--- what closes a listing: E
+-- what closes a listing: the foot, and then E
 abbrev pub closing : Run → List ℕ
-closing run = endText (run .accepted) (run .refused)
+closing run = footOf (run .holding) ++ endText (run .accepted) (run .refused)
 
 unfoldable pub listFrom : Run → List (List ℕ) → List ℕ
 listFrom run lines = printedFrom run lines ++ closing (runFrom run lines)

@@ -1,17 +1,17 @@
--- A part: what so many lines print, and E behind the last line; and all lines at once.
+-- A part: what so many lines print, and behind the last line the foot and E; and all lines at once.
 use Rattle.laws.proofs.{ℕ, _+_, _*_, _≤_, _<_, _≡_, refl, sym, ap, _∙_, true, false, List, [], _++_, append-nil, length-append, arith, length, take, drop, take-all}
 use lib.Seq.{length-take-le}
 use Rattle.text.specs.{Wrote}
 use Rattle.text.proofs.Writes.{wrote-next, wrote-is, wrote-length, wrote-as, wrote-then}
 use Rattle.statement_field.specs.{Put}
-use Rattle.book_print.specs.{reportWidth, pairWidth}
+use Rattle.book_print.specs.{reportWidth}
 use Rattle.book_listing.specs.{linesOf, Run, start, runFrom, printedFrom, closing, listFrom, longestBook, refusedBook, listingOf}
 use Rattle.book_listing.proofs.Lines.{lines-at, lines-none, lines-few}
 use Rattle.book_listing.proofs.Folding.{listing-lines}
 use Rattle.book_reached.specs.{Reached, runOf, nothingReached, mayRunFrom}
 use Rattle.book_reached.proofs.Bounds.{may}
 use Rattle.book_run.specs.{Part, linesFrom, RunOf}
-use Rattle.book_parts.specs.{partLines, closingAt, partFrom, partOf, ComesTo, Whole}
+use Rattle.book_parts.specs.{partLines, closingAt, closingWidth, partFrom, partOf, ComesTo, Whole}
 
 -- ---- a part put
 
@@ -21,7 +21,7 @@ whole {bytes} {out} {after} {n} w room =
     let short : n ≤ length after = omega (arith, wrote-length w) in
     record { count = next; stored = wrote-is w (omega arith); fits = short; part = sym (length-take-le n after short) }
 
--- behind the last line stands E, and behind another nothing
+-- behind the last line stand the foot and E, and behind another nothing
 module _ (run : Run) (book : List ℕ) (next : ℕ) (lines : List (List ℕ)) (same : linesFrom book next ≡ lines) where
   pub closed-not : next < length book → closingAt run lines ≡ []
   closed-not h = sym (ap (closingAt run) same) ∙ ap (closingAt run) (lines-at book next _ h refl)
@@ -37,7 +37,7 @@ module _ (book : List ℕ) (next : ℕ) (reached : Reached) where
   lines = linesFrom book next
 
   -- a book that may run
-  module _ (h : mayRunFrom book next reached ≡ true) {out after : List ℕ} {part : Part} (ran : RunOf book next reached partLines out after part) (room : partLines * reportWidth + pairWidth ≤ length out) where
+  module _ (h : mayRunFrom book next reached ≡ true) {out after : List ℕ} {part : Part} (ran : RunOf book next reached partLines out after part) (room : partLines * reportWidth + closingWidth ≤ length out) where
     abbrev listed : List ℕ
     listed = printedFrom run (take partLines lines)
 
@@ -59,7 +59,7 @@ module _ (book : List ℕ) (next : ℕ) (reached : Reached) where
         whole (wrote-as (sym (append-nil listed) ∙ ended) (ran .wrote))
         (omega (arith, ap length (sym (append-nil listed) ∙ ended), ran .wrote .place, ran .short))
 
-    pub part-last : length book ≤ part .next → {last : List ℕ} {count : ℕ} → Put pairWidth after (part .count) (closing (runOf (part .reached))) last count
+    pub part-last : length book ≤ part .next → {last : List ℕ} {count : ℕ} → Put closingWidth after (part .count) (closing (runOf (part .reached))) last count
         → Whole (partOf book next reached) out last count
     part-last over {last} {count} end =
         let ended = part-is (closing (runOf (part .reached))) (closed _ book (part .next) _ (ran .left) over ∙ ap (λ (r : Run). closing r) (sym (ran .run))) in

@@ -1,3 +1,3 @@
 pub mod Parts
-pub use Parts.{partLines, closingAt, ComesTo, Whole}
+pub use Parts.{partLines, closingAt, closingWidth, ComesTo, Whole}
 unfoldable pub use Parts.{partFrom, partOf}

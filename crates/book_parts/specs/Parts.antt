@@ -1,6 +1,7 @@
--- A listing in parts: what the next lines print, and E behind the last line. A part says where the next begins, and what the lines before it have come to.
-use Rattle.laws.specs.{ℕ, _≤_, _≡_, true, cond, List, [], _∷_, _++_, length, take, drop}
+-- A listing in parts: what the next lines print, and behind the last line the foot and E. A part says where the next begins, and what the lines before it have come to.
+use Rattle.laws.specs.{ℕ, _+_, _≤_, _≡_, true, cond, List, [], _∷_, _++_, length, take, drop}
 use Prim.Native.Nat.{_<_}
+use Rattle.book_print.specs.{footWidth, pairWidth}
 use Rattle.book_listing.specs.{Run, runFrom, printedFrom, closing, refusedBook}
 use Rattle.book_reached.specs.{Reached, runOf, mayRunFrom}
 use Rattle.book_run.specs.{Part, linesFrom}
@@ -9,10 +10,14 @@ use Rattle.book_run.specs.{Part, linesFrom}
 abbrev pub partLines : ℕ
 partLines = 256
 
--- E, where no line is left
+-- the foot and E, where no line is left
 abbrev pub closingAt : Run → List (List ℕ) → List ℕ
 closingAt run [] = closing run
 closingAt run (line ∷ lines) = []
+
+-- what these take at most
+abbrev pub closingWidth : ℕ
+closingWidth = footWidth + pairWidth
 
 -- what so many lines from some run on print, and what closes the listing
 unfoldable pub partFrom : Run → List (List ℕ) → List ℕ

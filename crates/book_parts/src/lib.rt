@@ -1,20 +1,22 @@
 // The listing of a book, a part at a time or whole.
-ghost use mathlib.Core.Path.{_≡_};
 ghost use Prim.Native.Nat.{_+_};
 ghost use Rattle.text.specs.{Wrote};
 ghost use Rattle.statement_field.specs.{Put};
 ghost use Rattle.book_print.specs.{refusalWidth, pairWidth};
-ghost use Rattle.book_listing.specs.{listingOf, refusedBook};
-ghost use Rattle.book_parts.specs.{partOf, Whole, ComesTo};
+ghost use Rattle.book_listing.specs.{closing, listingOf, refusedBook};
+ghost use Rattle.book_reached.specs.{runOf};
+ghost use Rattle.book_parts.specs.{closingWidth, partOf, Whole, ComesTo};
 use book_listing::LONGEST_BOOK;
 use book_reached::Reached;
 use book_run::Part;
 use refusals::Refusal;
 
-// How many lines a part lists at most, and room for what they print and for E.
+// How many lines a part lists at most, and room for what they print, for the foot and for E.
 pub const PART_LINES: usize = 256;
 
-pub const PART_ROOM: usize = PART_LINES * book_print::REPORT_WIDTH + book_print::PAIR_WIDTH;
+pub const PART_ROOM: usize = PART_LINES * book_print::REPORT_WIDTH
+    + book_print::FOOT_WIDTH
+    + book_print::PAIR_WIDTH;
 
 // Puts what is printed for a book that is not run.
 fn put_refused(out: &mut [u8]) -> usize
@@ -22,6 +24,15 @@ fn put_refused(out: &mut [u8]) -> usize
 {
     let next = book_print::put_refusal(out, 0, 0, Refusal::Form);
     book_print::put_end(out, next, 0, 1)
+}
+
+// Puts what closes a listing: the foot, and E.
+fn put_closing(out: &mut [u8], at: usize, reached: Reached) -> usize
+    ensures { λ r. ⌜ Put closingWidth (now (out .entry)) at (closing (runOf reached)) (now (out .exit)) r ⌝ }
+{
+    let holding = reached.holding;
+    let next = book_foot::put_foot(out, at, holding);
+    book_print::put_end(out, next, reached.accepted, reached.refused)
 }
 
 // Puts the next part of a book's listing, from a place on, where the lines before it have come to `reached`.
@@ -41,7 +52,7 @@ pub fn put_part(book: &[u8], next: usize, reached: Reached, out: &mut [u8; PART_
             return part;
         }
         let last = part.reached;
-        let count = book_print::put_end(out, part.count, last.accepted, last.refused);
+        let count = put_closing(out, part.count, last);
         return Part {
             count,
             next: part.next,
@@ -65,5 +76,5 @@ pub fn put_listing(book: &[u8], out: &mut [u8]) -> usize
     }
     let all = book_run::put_lines(book, 0, book_reached::nothing_reached(), LONGEST_BOOK, out);
     let last = all.reached;
-    book_print::put_end(out, all.count, last.accepted, last.refused)
+    put_closing(out, all.count, last)
 }

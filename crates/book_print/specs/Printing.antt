@@ -1,4 +1,5 @@
--- What `book` prints: "R: area, first and last year, change, received, due, balance; X: line, refusal; W: area, due; E: lines accepted, refused".
+-- What `book` prints: "R: area, first and last year, change, received, due, balance; X: line, refusal; W: area, due; E: lines accepted, refused", and
+-- "before the E line .. F, then units received, units surrendered and balance over all areas".
 -- A comma is byte 44, a minus sign byte 45; every line ends with byte 10.
 use Rattle.laws.specs.{ℕ, cond, List, [], _∷_, eqb, _+_, _*_, code}
 use Rattle.text.specs.{comma, lineEnd}
@@ -32,6 +33,11 @@ pairText letter a b = joined (startText letter ∷ numberText a comma ∷ number
 unfoldable pub refusalText : ℕ → Refusal → List ℕ
 refusalText line refusal = pairText (code "X") line (numberOf refusal)
 
+-- "F, then units received, units surrendered and balance"
+unfoldable pub footText : ℕ → ℕ → ℕ → List ℕ
+footText received surrendered balance =
+    joined (startText (code "F") ∷ numberText received comma ∷ numberText surrendered comma ∷ numberText balance lineEnd ∷ [])
+
 -- "E: lines accepted, refused"
 unfoldable pub endText : ℕ → ℕ → List ℕ
 endText accepted refused = pairText (code "E") accepted refused
@@ -52,3 +58,7 @@ pairWidth = startWidth + 2 * longWidth
 
 abbrev pub refusalWidth : ℕ
 refusalWidth = startWidth + longWidth + field 2
+
+-- a letter and three numbers
+abbrev pub footWidth : ℕ
+footWidth = startWidth + 3 * longWidth

@@ -3,7 +3,7 @@ ghost use mathlib.Core.List.{_∷_, []};
 ghost use Prim.Native.Nat.{_+_, _*_};
 ghost use Rattle.statement_format.specs.{startText, numberText, joined, startWidth, shortWidth, longWidth};
 ghost use Rattle.statement_field.specs.{Put};
-ghost use Rattle.book_print.specs.{lossText, changeText, reportText, pairText, refusalText, endText, changeWidth, reportWidth, pairWidth, refusalWidth};
+ghost use Rattle.book_print.specs.{lossText, changeText, reportText, pairText, refusalText, footText, endText, changeWidth, reportWidth, pairWidth, refusalWidth, footWidth};
 ghost use Rattle.text.specs.{comma, lineEnd};
 ghost use Rattle.laws.specs.{code};
 use refusals::Refusal;
@@ -18,6 +18,9 @@ pub const REPORT_WIDTH: usize = START_WIDTH + 3 * SHORT_WIDTH + 1 + 4 * LONG_WID
 
 // A letter and two numbers, at most.
 pub const PAIR_WIDTH: usize = START_WIDTH + 2 * LONG_WIDTH;
+
+// The foot, at most.
+pub const FOOT_WIDTH: usize = START_WIDTH + 3 * LONG_WIDTH;
 
 // Puts what is said of a loss of tonnes; the answer, here and below, is the place after what was put.
 fn put_loss(out: &mut [u8], at: usize, tonnes: u64) -> usize
@@ -92,6 +95,16 @@ pub fn put_refusal(out: &mut [u8], at: usize, line: u64, refusal: Refusal) -> us
 {
     let number = refusals::number(refusal);
     put_pair(out, at, b'X', line, number as u64)
+}
+
+// Puts the foot: the units received, the units surrendered and the balance over all areas.
+pub fn put_foot(out: &mut [u8], at: usize, received: u64, surrendered: u64, balance: u64) -> usize
+    ensures { λ r. ⌜ Put footWidth (now (out .entry)) at (footText received surrendered balance) (now (out .exit)) r ⌝ }
+{
+    let next = statement_field::put_start(out, at, b'F');
+    let next = statement_field::put_field(out, next, received, b',');
+    let next = statement_field::put_field(out, next, surrendered, b',');
+    statement_field::put_field(out, next, balance, b'\n')
 }
 
 // Puts the book's last line: how many lines were accepted, and how many refused.

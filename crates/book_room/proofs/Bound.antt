@@ -1,6 +1,6 @@
--- A listing has at most 11 bytes for each byte of its book and one more, and 14 for E: a line prints at most 11 bytes for each of its own and its end,
+-- A listing has at most 11 bytes for each byte of its book and one more, 44 for the foot and 14 for E: a line prints at most 11 bytes for each of its own and its end,
 -- since a refusal takes no more than 11 and the lines that print more are as much longer themselves.
-use Rattle.laws.proofs.{ℕ, suc, _+_, _*_, _≤_, _<_, Bool, true, false, cond, ap, List, [], _∷_, _++_, ⊎-elim, arith, eqb, length, length-append}
+use Rattle.laws.proofs.{ℕ, suc, _+_, _*_, _≤_, _<_, Bool, true, false, cond, ap, List, [], _∷_, ⊎-elim, arith, eqb, length, length-append}
 use Rattle.laws.specs.{sumBy}
 use Rattle.laws.proofs.Order.{below-or-not}
 use Rattle.text.specs.{extend}
@@ -8,10 +8,12 @@ use Rattle.refusals.specs.{Verdict, Refusal}
 use Rattle.step_outcome.specs.{Outcome}
 use Rattle.book_print.specs.{reportText, refusalText, endText}
 use Rattle.book_print.proofs.Lengths.{refusal-few, end-few}
+use Rattle.book_foot.specs.{footOf, mostForFoot}
 use Rattle.book_listing.specs.{linesOf, lineTaken, Run, start, next, printedFor, printed, listFrom, longestBook, refusedBook, listingOf}
 use Rattle.book_listing.proofs.Folding.{start-none, next-counts, list-line, list-none, listing-over, listing-lines}
 use Rattle.book_listing.proofs.Lines.{lines-few}
 use Rattle.book_room.specs.{mostForByte, mostForEnd, roomForAny}
+use Rattle.book_room.proofs.Feet.{kept-foot-few}
 use Rattle.book_room.proofs.Runs.{line-length, RunKept, start-kept, next-kept}
 
 -- a line's bytes and its end
@@ -31,9 +33,16 @@ printed-length run line k h =
     (line-length (run .own) (k .table) (run .holding) (k .holding) line)
 
 from-length : (run : Run) (lines : List (List ℕ)) → RunKept run → run .accepted + run .refused + length lines ≤ longestBook
-    → length (listFrom run lines) ≤ mostForByte * sumBy weight lines + mostForEnd
+    → length (listFrom run lines) ≤ mostForByte * sumBy weight lines + mostForFoot + mostForEnd
 unfolding sumBy
-from-length run [] k h = omega (arith, ap length (list-none run), end-few 4 4 (run .accepted) (run .refused) (omega arith) (omega arith))
+from-length run [] k h =
+    omega (
+      arith,
+      ap length (list-none run),
+      length-append (footOf (run .holding)) (endText (run .accepted) (run .refused)),
+      kept-foot-few (run .holding) (k .holding),
+      end-few 4 4 (run .accepted) (run .refused) (omega arith) (omega arith),
+    )
 from-length run (line ∷ lines) k h =
     let counts = next-counts run line in
     let first = printed-length run line k (omega arith) in
@@ -51,7 +60,7 @@ lines-weigh (b ∷ bs) = go (eqb b 10) (linesOf bs) (lines-weigh bs)
     go false [] h = omega arith
     go false (f ∷ fs) h = omega arith
 
-pub listing-length : (book : List ℕ) → length book ≤ longestBook → length (listingOf book) ≤ mostForByte * (length book + 1) + mostForEnd
+pub listing-length : (book : List ℕ) → length book ≤ longestBook → length (listingOf book) ≤ mostForByte * (length book + 1) + mostForFoot + mostForEnd
 listing-length book h =
     let few = lines-few book in
     omega (

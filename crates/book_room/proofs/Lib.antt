@@ -1,5 +1,6 @@
 pub mod Texts
 pub mod Widths
 pub mod Reports
+pub mod Feet
 pub mod Runs
 pub mod Bound

@@ -1,5 +1,5 @@
 -- Every line leaves a table and a holding that a statement carries: an entry by the laws of its letter, T by the longer table, and a refused line nothing.
-use Rattle.laws.proofs.{ℕ, _*_, _+_, _≤_, true, _≡_, refl, sym, subst, List, arith, length}
+use Rattle.laws.proofs.{ℕ, _*_, _+_, _≤_, true, _≡_, refl, sym, subst, List, [], _∷_, arith, length}
 use Rattle.book_room.specs.{mostForByte}
 use Rattle.refusals.specs.{Verdict}
 use Rattle.schedules.specs.{schedule6}
@@ -15,7 +15,7 @@ use Rattle.step.proofs.Entered.{step-is}
 use Rattle.table_grow.specs.{lineColumn, lineCells, longerBy}
 use Rattle.table_grow.proofs.Fits.{grown-extensible}
 use Rattle.book_print.specs.{reportText}
-use Rattle.book_listing.specs.{columnTaken, entryTaken, parsedTaken, lineTaken, entryTable, parsedTable, ifAccepted, tableAfter, Run, start, next}
+use Rattle.book_listing.specs.{columnTaken, entryTaken, parsedTaken, lineTaken, entryTable, parsedTable, ifAccepted, tableAfter, Run, start, next, runFrom}
 use Rattle.theorem_keeping.specs.{Kept}
 use Rattle.theorem_keeping.proofs.Areas.{kept-areas}
 use Rattle.theorem_keeping.proofs.Keeping.{step-keeps, empty-kept}
@@ -97,3 +97,8 @@ next-kept run line k =
           (parsed-table own (k .table) holding (k .holding) line (entryOf line));
       holding = parsed-keeps own (k .table) holding (k .holding) line (entryOf line);
     }
+
+pub run-kept : (lines : List (List ℕ)) (run : Run) → RunKept run → RunKept (runFrom run lines)
+unfolding runFrom
+run-kept [] run kept = kept
+run-kept (line ∷ lines) run kept = run-kept lines (next run line) (next-kept run line kept)

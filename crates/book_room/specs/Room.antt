@@ -1,6 +1,7 @@
 -- How many bytes are printed at most, of a book and of a holding that entries reach.
 use Rattle.laws.specs.{ℕ, _+_, _*_}
 use Rattle.statement_format.specs.{startWidth, field}
+use Rattle.book_foot.specs.{mostForFoot}
 use Rattle.book_listing.specs.{longestBook}
 
 -- an R line: its area, two years, a change that may have a sign, two numbers of units and the balance; and a W line
@@ -18,6 +19,6 @@ mostForByte = startWidth + field 5 + field 2
 abbrev pub mostForEnd : ℕ
 mostForEnd = startWidth + 2 * field 5
 
--- a book's last line may lack its end
+-- a book's last line may lack its end; the foot and E close the listing
 abbrev pub roomForAny : ℕ
-roomForAny = mostForByte * (longestBook + 1) + mostForEnd
+roomForAny = mostForByte * (longestBook + 1) + mostForFoot + mostForEnd

@@ -17,7 +17,7 @@ use Rattle.statement.specs.{readOf}
 use Rattle.table_grow.specs.{growable, longerBy}
 use Rattle.table_grow.proofs.Fits.{longer-fits}
 use Rattle.book_print.specs.{reportText}
-use Rattle.book_listing.specs.{entryTaken, parsedTaken, lineTaken, listFrom, start, longestBook, listingOf, linesOf}
+use Rattle.book_listing.specs.{entryTaken, parsedTaken, lineTaken, printedFrom, listFrom, start, longestBook, listingOf, linesOf}
 use Rattle.theorem_keeping.specs.{Kept}
 use Rattle.theorem_keeping.proofs.Areas.{kept-areas}
 use Rattle.theorem_round_trips.proofs.Trips.{read-kept}
@@ -26,10 +26,10 @@ use Rattle.book_room.proofs.Reports.{applied-length}
 use Rattle.call_output.proofs.TableBytes.{bytes-length}
 use Rattle.call_answer.specs.{tableVerdict, callVerdict, entryBytes, parsedBytes, callBytes}
 use Rattle.call_answer.proofs.Smaller.{call-clear}
-use Rattle.call_book.specs.{mostWritten, begin, callsFrom}
+use Rattle.call_book.specs.{mostWritten, begin, callsFrom, sheetFrom}
 use Rattle.call_book.proofs.Taken.{act-kept}
 use Rattle.call_book.proofs.Lengths.{statement-few}
-use Rattle.call_book.proofs.CallsList.{calls-list-within}
+use Rattle.call_book.proofs.CallsList.{calls-print, calls-list-within}
 
 -- a table that is accepted is one
 pub table-is : (table : List ℕ) → tableVerdict table ≡ Verdict.Accepted → isTable (numbersOf table) ≡ true
@@ -65,11 +65,16 @@ call-few statement table line e =
     let parts = call-clear statement table line e in
     parsed-few (numbersOf table) (readOf statement .holding) (table-is table (parts .1)) (read-kept statement (parts .2)) line (entryOf line) (parts .3)
 
--- each line is taken by a call; the statement, the table and the output of one call go to the next
-pub calls-list : (out : List ℕ) → mostWritten ≤ length out → (lines : List (List ℕ)) → callsFrom (begin [] out) lines ≡ listFrom start lines
-calls-list out room lines = calls-list-within mostWritten call-few out room lines
+module _ (out : List ℕ) (room : mostWritten ≤ length out) where
+  -- each line is taken by a call; the statement, the table and the output of one call go to the next: they print the listing's lines before the foot
+  pub calls-lines : (lines : List (List ℕ)) → callsFrom (begin [] out) lines ≡ printedFrom start lines
+  calls-lines lines = calls-print mostWritten call-few out room lines
 
--- so a book that `book` reads is run by calls as `book` runs it
-pub calls-book : (out book : List ℕ) → mostWritten ≤ length out → length book ≤ longestBook → callsFrom (begin [] out) (linesOf book) ≡ listingOf book
-unfolding listingOf
-calls-book out book room short = calls-list out room (linesOf book) ∙ simp (le-ltb longestBook (length book) short)
+  -- with the foot of the last statement they are the listing
+  pub calls-list : (lines : List (List ℕ)) → sheetFrom (begin [] out) lines ≡ listFrom start lines
+  calls-list lines = calls-list-within mostWritten call-few out room lines (omega arith)
+
+  -- so a book that `book` reads is run by calls as `book` runs it
+  pub calls-book : (book : List ℕ) → length book ≤ longestBook → sheetFrom (begin [] out) (linesOf book) ≡ listingOf book
+  unfolding listingOf
+  calls-book book short = calls-list (linesOf book) ∙ simp (le-ltb longestBook (length book) short)

@@ -1,5 +1,5 @@
 -- A book run line by line through the call gives the listing of `book`: after every line the program keeps the bytes of the holding and of the
--- table that the listing carries, so every call is asked what `book` asks itself, and answers and prints the same.
+-- table that the listing carries, so every call is asked what `book` asks itself, and answers and prints the same; and so is the call for the foot.
 use Rattle.laws.proofs.{ℕ, suc, _+_, _≤_, _≡_, refl, sym, ap, subst, _∙_, Bool, true, false, cond, List, [], _∷_, _++_, arith, length, drop, length-append, length-drop}
 use lib.IntN.{pos, negsuc}
 use Rattle.refusals.specs.{Refusal, Verdict}
@@ -12,19 +12,24 @@ use Rattle.step_outcome.specs.{Outcome, placed}
 use Rattle.step_outcome.proofs.Laws.{answered-clear}
 use Rattle.statement_format.specs.{statementOf}
 use Rattle.table_grow.specs.{growable, longerBy}
-use Rattle.book_print.specs.{reportText, refusalText, pairText}
-use Rattle.book_listing.specs.{entryTaken, parsedTaken, lineTaken, parsedTable, Run, next, printed, listFrom, start}
-use Rattle.book_listing.proofs.Folding.{list-line, list-none}
+use Rattle.book_print.specs.{reportText, refusalText, pairText, endText}
+use Rattle.book_foot.specs.{footOf, mostForFoot}
+use Rattle.book_listing.specs.{entryTaken, parsedTaken, lineTaken, parsedTable, Run, next, printed, runFrom, printedFrom, closing, listFrom, start}
+use Rattle.statement.specs.{Read}
 use Rattle.theorem_keeping.specs.{Kept}
 use Rattle.theorem_keeping.proofs.Keeping.{empty-kept}
 use Rattle.call_output.specs.{tableBytes, stateBytes}
+use Rattle.theorem_round_trips.proofs.Trips.{accepts-that}
+use Rattle.call_foot.specs.{footBytes}
+use Rattle.call_foot.proofs.Written.{foot-read, foot-at-most}
 use Rattle.call_answer.specs.{entryBytes, parsedBytes, callVerdict, callBytes}
-use Rattle.call_book.specs.{Caller, begin, statementIn, reportIn, taken, afterCall, shownAfter, callsFrom}
+use Rattle.call_book.specs.{Caller, begin, statementIn, reportIn, taken, afterCall, shownAfter, callsFrom, callerAfter, closedBy, sheetFrom}
 use Rattle.call_book.proofs.Split.{statement-split, report-split}
 use Rattle.call_book.proofs.ColumnLines.{column-line}
 use Rattle.call_book.proofs.Tables.{longer-table}
 use Rattle.call_book.proofs.Taken.{line-leaves, act-kept, next-refused, next-accepted, printed-refused, printed-accepted}
 use Rattle.call_book.proofs.Answers.{by-answer, by-written, refused-call, accepted-call, own-verdict, minus-number}
+use Rattle.call_book.proofs.Feet.{foot-shown}
 
 -- the program keeps what the listing carries, as bytes
 record Follows (most : ℕ) (caller : Caller) (run : Run) : Type 0 where
@@ -165,18 +170,48 @@ module _ (most : ℕ) (caller : Caller) (run : Run) (f : Follows most caller run
 abbrev pub Enough : ℕ → Type 0
 Enough most = (statement table line : List ℕ) → callVerdict statement table line ≡ Verdict.Accepted → length (callBytes statement table line) ≤ most
 
-calls-follow : (most : ℕ) → Enough most → (lines : List (List ℕ)) (caller : Caller) (run : Run) → Follows most caller run
-    → callsFrom caller lines ≡ listFrom run lines
-unfolding callsFrom
-calls-follow most enough [] caller run f = rw (f .accepted, f .refused) (sym (list-none run))
+-- what a list of lines prints, and where it leaves the program
+record AllFollow (most : ℕ) (caller : Caller) (run : Run) (lines : List (List ℕ)) : Type 0 where
+  follows : Follows most (callerAfter caller lines) (runFrom run lines)
+  prints : callsFrom caller lines ≡ printedFrom run lines
+
+calls-follow : (most : ℕ) → Enough most → (lines : List (List ℕ)) (caller : Caller) (run : Run) → Follows most caller run → AllFollow most caller run lines
+unfolding callsFrom callerAfter runFrom printedFrom
+calls-follow most enough [] caller run f = record { follows = f; prints = refl }
 calls-follow most enough (line ∷ lines) caller run f =
     let m = line-matches most caller run f line (enough (caller .statement) (caller .table) line) in
-    ap (λ (t : List ℕ). t ++ callsFrom (afterCall caller line) lines) (m .prints)
-    ∙ ap (λ (t : List ℕ). printed run line ++ t) (calls-follow most enough lines (afterCall caller line) (next run line) (m .follows))
-    ∙ sym (list-line run line lines)
+    let rest = calls-follow most enough lines (afterCall caller line) (next run line) (m .follows) in
+    record {
+      follows = rest .follows;
+      prints =
+          ap (λ (t : List ℕ). t ++ callsFrom (afterCall caller line) lines) (m .prints)
+          ∙ ap (λ (t : List ℕ). printed run line ++ t) (rest .prints);
+    }
 
-pub calls-list-within : (most : ℕ) → Enough most → (out : List ℕ) → most ≤ length out → (lines : List (List ℕ)) → callsFrom (begin [] out) lines ≡ listFrom start lines
-unfolding begin start tableBytes isTable
-calls-list-within most enough out room lines =
-    calls-follow most enough lines (begin [] out) start
-    (record { statement = refl; table = refl; room = room; accepted = refl; refused = refl; kept = empty-kept; isOwn = refl })
+-- the foot of the statement that the program keeps is that of the listing, and E has its counts
+closed-by : (most : ℕ) → mostForFoot ≤ most → (caller : Caller) (run : Run) → Follows most caller run → closedBy caller ≡ closing run
+closed-by most enough caller run f =
+    let holding = run .holding in
+    let read = accepts-that (caller .statement) holding (f .kept) (sym (f .statement)) in
+    let clear = ap (λ (r : Read). r .verdict) read in
+    let room : length (footBytes (caller .statement)) ≤ length (caller .out) = omega (arith, foot-at-most (caller .statement) clear, f .room) in
+    ap (λ (t : List ℕ). t ++ endText (caller .accepted) (caller .refused))
+    (foot-shown (caller .statement) (caller .out) clear room ∙ sym (foot-read (caller .statement) clear) ∙ ap (λ (r : Read). footOf (r .holding)) read)
+    ∙ ap (λ (n : ℕ). footOf holding ++ endText n (caller .refused)) (f .accepted)
+    ∙ ap (λ (n : ℕ). footOf holding ++ endText (run .accepted) n) (f .refused)
+
+module _ (most : ℕ) (enough : Enough most) (out : List ℕ) (room : most ≤ length out) (lines : List (List ℕ)) where
+  all-follow : AllFollow most (begin [] out) start lines
+  unfolding begin start tableBytes isTable
+  all-follow =
+      calls-follow most enough lines (begin [] out) start
+      (record { statement = refl; table = refl; room = room; accepted = refl; refused = refl; kept = empty-kept; isOwn = refl })
+
+  pub calls-print : callsFrom (begin [] out) lines ≡ printedFrom start lines
+  calls-print = all-follow .prints
+
+  pub calls-list-within : mostForFoot ≤ most → sheetFrom (begin [] out) lines ≡ listFrom start lines
+  unfolding listFrom
+  calls-list-within foot =
+      ap (λ (t : List ℕ). t ++ closedBy (callerAfter (begin [] out) lines)) (all-follow .prints)
+      ∙ ap (λ (t : List ℕ). printedFrom start lines ++ t) (closed-by most foot (callerAfter (begin [] out) lines) (runFrom start lines) (all-follow .follows))

@@ -3,6 +3,7 @@ pub mod ColumnLines
 pub mod Tables
 pub mod Taken
 pub mod Answers
+pub mod Feet
 pub mod CallsList
 pub mod Lengths
 pub mod Bound

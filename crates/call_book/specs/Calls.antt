@@ -1,5 +1,5 @@
 -- A book run line by line through the call, as the field unit's own program runs it: it keeps a statement, a table and one output buffer, and
--- lends them to every call.
+-- lends them to every call. Behind the last line it asks for the foot.
 use Rattle.laws.specs.{ℕ, suc, _+_, Bool, true, false, cond, _&&_, _||_, List, [], _∷_, _++_, eqb, length, getD, take, drop, ℤ, pos, negsuc, code}
 use Rattle.text.specs.{lineEnd}
 use Rattle.book_room.specs.{returnWidth}
@@ -7,6 +7,7 @@ use Rattle.holding.specs.{emptyHolding}
 use Rattle.statement_format.specs.{statementOf, carriedWidth}
 use Rattle.book_print.specs.{pairText, endText}
 use Rattle.call_answer.specs.{callAnswer, callOutput}
+use Rattle.call_foot.specs.{footAnswer, footOutput}
 
 -- the most bytes that a call writes (`call-few`): an output as long is never too short
 abbrev pub mostWritten : ℕ
@@ -73,7 +74,27 @@ shownAfter caller line =
     (callOutput (caller .statement) (caller .table) line (caller .out))
     (callAnswer (caller .statement) (caller .table) line (length (caller .out)))
 
--- from some line on: what it prints for each, and E
+-- from some line on: what it prints for each
 unfoldable pub callsFrom : Caller → List (List ℕ) → List ℕ
-callsFrom caller [] = endText (caller .accepted) (caller .refused)
+callsFrom caller [] = []
 callsFrom caller (line ∷ lines) = shownAfter caller line ++ callsFrom (afterCall caller line) lines
+
+-- the program after the lines
+unfoldable pub callerAfter : Caller → List (List ℕ) → Caller
+callerAfter caller [] = caller
+callerAfter caller (line ∷ lines) = callerAfter (afterCall caller line) lines
+
+-- what the call for the foot wrote
+abbrev pub footIn : List ℕ → ℤ → List ℕ
+footIn out (pos n) = take n out
+footIn out (negsuc n) = []
+
+-- and what the program prints behind the last line: the foot of its statement, and E
+abbrev pub closedBy : Caller → List ℕ
+closedBy caller =
+    footIn (footOutput (caller .statement) (caller .out)) (footAnswer (caller .statement) (length (caller .out)))
+    ++ endText (caller .accepted) (caller .refused)
+
+-- the sheet of a book, by calls
+abbrev pub sheetFrom : Caller → List (List ℕ) → List ℕ
+sheetFrom caller lines = callsFrom caller lines ++ closedBy (callerAfter caller lines)

@@ -1,38 +1,38 @@
--- The answer by what the call wrote: a count of bytes, which are at most `mostWritten`, or a refusal's number below 0.
-use Rattle.laws.proofs.{ℕ, _≤_, _≡_, refl, sym, ap, _∙_, List, arith, ltb, length}
-use lib.IntN.{pos, negℤ}
+-- What a call wrote, with its sign, is what it answers; and it is small: a call that is clear has few bytes, and a refusal's number has two digits.
+use Rattle.laws.proofs.{ℕ, _<_, _^_, _≡_, refl, sym, subst, ap, _∙_, List, arith, ltb, length}
+use lib.IntN.{ℤ}
+use mir.Syntax.{w64}
+use mir.Val.{toZ, ofZ}
 use Rattle.refusals.specs.{Refusal, Verdict, numberOf, Written, written}
-use Rattle.refusals.proofs.Laws.{clear-before}
+use Rattle.refusals.proofs.Laws.{clear-before, number-range}
 use Rattle.call_output.specs.{withRoom}
-use Rattle.call_answer.specs.{callVerdict, callBytes, callWeighed, answerOf, callAnswer}
-use Rattle.call_book.specs.{mostWritten}
-use Rattle.call_book.proofs.Bound.{call-few}
+use Rattle.call_answer.specs.{answerOf}
+use Rattle.engine.specs.{signed, Fitting}
+use Rattle.engine.proofs.Signed.{minus-read, plus-read}
 
-by-count : (v : Verdict) (bytes : List ℕ) (n : ℕ) → written v bytes ≡ Written.Count n → (v ≡ Verdict.Accepted) × (n ≡ length bytes) × (pos n ≡ answerOf v bytes)
+signed-written : (v : Verdict) (bytes : List ℕ) → signed (written v bytes) ≡ answerOf v bytes
 unfolding written
-by-count Verdict.Accepted bytes n e = let same : n ≡ length bytes = cc in (refl, same, ap pos same)
-by-count (Verdict.Refused s) bytes n e = (cc, cc, cc)
+signed-written Verdict.Accepted bytes = refl
+signed-written (Verdict.Refused refusal) bytes = refl
 
-by-refusal : (v : Verdict) (bytes : List ℕ) (r : Refusal) → written v bytes ≡ Written.Refused r → negℤ (pos (numberOf r)) ≡ answerOf v bytes
+written-fits : (v : Verdict) (bytes : List ℕ) → (v ≡ Verdict.Accepted → length bytes < 2 ^ 63) → Fitting (written v bytes)
 unfolding written
-by-refusal Verdict.Accepted bytes r e = cc
-by-refusal (Verdict.Refused s) bytes r e = let same : r ≡ s = cc in rw same
+written-fits Verdict.Accepted bytes few = few refl
+written-fits (Verdict.Refused refusal) bytes few = tt
 
-module _ (statement table line : List ℕ) (room : ℕ) (answer : Written)
-    (e : answer ≡ written (callWeighed statement table line room) (callBytes statement table line)) where
-  pub refusal-answered : (r : Refusal) → answer ≡ Written.Refused r → negℤ (pos (numberOf r)) ≡ callAnswer statement table line room
-  unfolding callAnswer
-  refusal-answered r q = by-refusal (callWeighed statement table line room) (callBytes statement table line) r (sym e ∙ q)
+-- read back as it was answered
+pub signed-read : (answer : Written) → Fitting answer → toZ w64 (ofZ w64 (signed answer)) ≡ signed answer
+signed-read (Written.Count count) fits = plus-read fits
+signed-read (Written.Refused refusal) fits = let h : numberOf refusal < 2 ^ 63 = omega (arith, number-range refusal .1) in minus-read h
 
-  module _ (n : ℕ) (q : answer ≡ Written.Count n) where
-    pub count-answered : pos n ≡ callAnswer statement table line room
-    unfolding callAnswer
-    count-answered = by-count (callWeighed statement table line room) (callBytes statement table line) n (sym e ∙ q) .2
+-- under a verdict, with these bytes to write, of which there are few where it is clear
+module _ (verdict : Verdict) (bytes : List ℕ) (room : ℕ) (few : verdict ≡ Verdict.Accepted → length bytes < 2 ^ 63) (answer : Written)
+    (e : answer ≡ written (withRoom verdict bytes room) bytes) where
+  pub answer-fits : Fitting answer
+  unfolding withRoom
+  answer-fits =
+      subst Fitting (sym e)
+      (written-fits (withRoom verdict bytes room) bytes (λ clear. few (clear-before verdict (ltb room (length bytes)) Refusal.OutputShort clear)))
 
-    pub count-few : n ≤ mostWritten
-    unfolding callWeighed withRoom
-    count-few =
-        let counted = by-count (callWeighed statement table line room) (callBytes statement table line) n (sym e ∙ q) in
-        let bytes = callBytes statement table line in
-        let clear = clear-before (callVerdict statement table line) (ltb room (length bytes)) Refusal.OutputShort (counted .0) in
-        omega (arith, counted .1, call-few statement table line clear)
+  pub answer-is : (r : ℤ) → r ≡ signed answer → toZ w64 (ofZ w64 r) ≡ answerOf (withRoom verdict bytes room) bytes
+  answer-is r q = ap (λ (z : ℤ). toZ w64 (ofZ w64 z)) q ∙ signed-read answer answer-fits ∙ ap signed e ∙ signed-written (withRoom verdict bytes room) bytes

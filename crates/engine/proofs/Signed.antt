@@ -1,4 +1,4 @@
--- An `i64` that is minus a small number.
+-- An `i64` that is a small number, or minus one.
 use Rattle.laws.proofs.{_≡_, refl, sym, ap, subst, _∙_, ℕ, zero, suc, _<_, _^_, arith, lt-ltb}
 use lib.IntN.{ℤ, pos, negsuc, negℤ, _-ℤ_}
 use mir.Syntax.{w64}
@@ -26,3 +26,6 @@ module _ {k : ℕ} (h : k < 2 ^ 63) where
   -- what a function answered, read back
   pub minus-read : toZ w64 (ofZ w64 (negℤ (pos k))) ≡ negℤ (pos k)
   minus-read = toZ-ofZ {w = w64} (fits k h)
+
+  pub plus-read : toZ w64 (ofZ w64 (pos k)) ≡ pos k
+  plus-read = toZ-ofZ {w = w64} (record { sfits = h })

@@ -1,17 +1,20 @@
-// The call of a recorder's own program: a statement, a table, a line and an output buffer.
+// The calls of a recorder's own program: one takes a line by a statement and a table, one gives the foot of a statement.
 ghost use mathlib.Core.Path.{_≡_};
-ghost use lib.IntN.{negℤ, pos};
 ghost use lib.ListN.{length};
-ghost use Rattle.refusals.specs.{numberOf};
 ghost use Rattle.call_answer.specs.{callAnswer, callOutput};
-use refusals::Refusal;
+ghost use Rattle.call_foot.specs.{footAnswer, footOutput};
+ghost use Rattle.engine.specs.{signed, Fitting};
 use refusals::Written;
 
-// A refusal's number with a minus sign.
-fn minus(refusal: Refusal) -> i64
-    ensures { λ r. ⌜ r ≡ negℤ (pos (numberOf refusal)) ⌝ }
+// How many bytes were written, or a refusal's number with a minus sign.
+fn answered(answer: Written) -> i64
+    requires { ⌜ Fitting answer ⌝ }
+    ensures { λ r. ⌜ r ≡ signed answer ⌝ }
 {
-    -(refusals::number(refusal) as i64)
+    match answer {
+        Written::Refused(refusal) => -(refusals::number(refusal) as i64),
+        Written::Count(count) => count as i64,
+    }
 }
 
 // Takes a line by a statement and a table. `out` takes the new statement and then the report of an R or W line, or the longer table of a T line:
@@ -27,8 +30,16 @@ pub extern "C" fn carbon_account_line(
     ensures { λ _. ⌜ now (out .exit) ≡ callOutput (now (statement .entry)) (now (table .entry)) (now (line .entry)) (now (out .entry)) ⌝ }
 {
     let answer = call_line::call(statement, table, line, out);
-    match answer {
-        Written::Refused(refusal) => minus(refusal),
-        Written::Count(count) => count as i64,
-    }
+    answered(answer)
+}
+
+// Gives the foot of a statement: `out` takes the F line. The answer is how many bytes, at most 44, or below 0 the number of the refusal, which leaves
+// `out` as it was.
+#[no_mangle]
+pub extern "C" fn carbon_foot(statement: &[u8], out: &mut [u8]) -> i64
+    ensures { λ r. ⌜ r ≡ footAnswer (now (statement .entry)) (length (now (out .entry))) ⌝ }
+    ensures { λ _. ⌜ now (out .exit) ≡ footOutput (now (statement .entry)) (now (out .entry)) ⌝ }
+{
+    let answer = call_foot::foot(statement, out);
+    answered(answer)
 }

@@ -1,4 +1,8 @@
 pub mod Standing
+pub mod Totals
 pub use declared.Looked.{Looked}
+pub use declared.Units.{Units}
 pub use Standing.{known, lookedAt, lookedUp, balanceOf, subsWith}
 unfoldable pub use Standing.{areaAt, subAt, withSub}
+unfoldable pub use Totals.{overAll}
+pub use Totals.{unitsReceived, unitsSurrendered, unitsOf, unitsIn}

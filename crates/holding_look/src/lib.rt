@@ -78,6 +78,13 @@ pub fn sub_at(area: Area, found: Found) -> Sub
     }
 }
 
+// Units of one area or of many.
+pub struct Units {
+    pub received: u64,
+    pub surrendered: u64,
+    pub balance: u64,
+}
+
 fn later(year: u16, other: u16) -> u16
     ensures { λ r. ⌜ r ≡ max year other ⌝ }
 {

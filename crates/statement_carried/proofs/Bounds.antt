@@ -1,7 +1,8 @@
 -- The bounds on an area's fields that a step relies on, read off the tests that its fields pass.
-use Rattle.laws.proofs.{_+_, _*_, _≤_, true, _≡_, leb-true}
+use Rattle.laws.proofs.{ℕ, _+_, _-_, _*_, _≤_, max, true, _≡_, arith, leb, leb-true}
 use Rattle.laws.proofs.Tests.{AllTrue, all-true}
-use Rattle.ranges.specs.{lastYear}
+use Rattle.laws.proofs.Lists.{and-left}
+use Rattle.ranges.specs.{firstYear, lastYear}
 use Rattle.holding.specs.{Area, mostSubs}
 use Rattle.statement_carried.specs.{stockForSub, receivedForReturn, yearsCarried, amountsCarried, fieldsCarried}
 
@@ -27,3 +28,15 @@ bounds area e =
       received = leb-true _ _ (amounts .1 .0);
       surrendered = leb-true _ _ (amounts .1 .1 .0);
     }
+
+-- an area has a return for each of its years at most
+abbrev pub mostUnits : ℕ
+mostUnits = receivedForReturn * (lastYear + 1 - firstYear)
+
+pub units-few : (area : Area) → fieldsCarried area ≡ true → max (area .received) (area .surrendered) ≤ mostUnits
+unfolding fieldsCarried yearsCarried AllTrue
+units-few area e =
+    let years = all-true _ (all-true _ e .1 .1 .0) in
+    let opens = leb-true firstYear (area .opening) (and-left (leb firstYear (area .opening)) (leb (area .opening) lastYear) (years .0)) in
+    let b = bounds area e in
+    omega (arith, b .open-year, b .returns, b .received, b .surrendered)

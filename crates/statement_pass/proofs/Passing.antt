@@ -1,11 +1,12 @@
 -- What the pass over the areas comes to, by what the whole statement is read as: the tests of the areas and their numbers are the statement's, and the
 -- area that was sought is the one that a search of the holding finds, at its place.
 use Rattle.laws.proofs.{ℕ, zero, suc, _+_, _-_, _<_, _≡_, refl, sym, ap, _∙_, Bool, true, false, cond, _&&_, List, arith, eqb, leb, ltb, le-leb, length, take}
-use Rattle.laws.specs.{every, distinct, allOf}
+use Rattle.laws.specs.{every, distinct, sumBy, allOf}
 use Rattle.laws.proofs.Turns.{and-assoc}
+use Rattle.laws.proofs.Lists.{and-left, and-right}
 use Rattle.refusals.specs.{Refusal, Verdict}
 use Rattle.holding.specs.{Area, Holding, Found, mostAreas, areasOf, emptyArea, emptyHolding, placeFrom, findArea}
-use Rattle.holding_look.specs.{areaAt, lookedUp}
+use Rattle.holding_look.specs.{Units, areaAt, lookedUp, overAll, unitsOf, unitsIn}
 use Rattle.statement_carried.specs.{areaCarried, carried}
 use Rattle.laws.proofs.Distinct.{distinct-borne}
 use Rattle.statement_cursor.specs.{NumberField}
@@ -16,6 +17,10 @@ use Rattle.statement.specs.{Read, accepts, readOf}
 use Rattle.statement.proofs.Laws.{taken, refused}
 use Rattle.statement_pass.specs.declared.AreasPassed.{AreasPassed}
 use Rattle.statement_pass.specs.{Passed, Sought, soughtFrom, PassesAreas, passedOver}
+
+-- of no area
+abbrev noUnits : Units
+noUnits = record { received = 0; surrendered = 0; balance = 0 }
 
 module _ (s : List ℕ) (number : ℕ) where
   abbrev read : Holding
@@ -87,16 +92,29 @@ module _ (s : List ℕ) (number : ℕ) where
     abbrev from-read : Read → Passed
     from-read r =
         let looked = lookedUp (r .holding) number in
-        record { verdict = r .verdict; looked = looked; body = body s; from = startOf s (looked .found); to = endOf s (looked .found) }
+        record {
+          verdict = r .verdict;
+          looked = looked;
+          body = body s;
+          from = startOf s (looked .found);
+          to = endOf s (looked .found);
+          units = unitsOf (r .holding);
+        }
 
-    abbrev from-sought : ℕ → Sought → Passed
-    from-sought count x = record {
+    abbrev from-sought : ℕ → Sought → Units → Passed
+    from-sought count x units = record {
       verdict = Verdict.Accepted;
       looked = record { number = number; count = count; found = x .found; area = x .area };
       body = body s;
       from = x .from;
       to = x .to;
+      units = units;
     }
+
+    -- the units are those of the holding that is read
+    units-are : passed .kept ≡ true → passed .units ≡ unitsOf read
+    unfolding overAll
+    units-are kept = p .units kept ∙ ap unitsIn (sym (areas-read s))
 
     is-read : accepts s (holdingAt s) ≡ true → record { verdict = Verdict.Accepted; holding = read } ≡ readOf s
     unfolding readOf
@@ -113,11 +131,14 @@ module _ (s : List ℕ) (number : ℕ) where
           body = body s;
           from = passed .from;
           to = passed .to;
+          units = passed .units;
         } ≡ passedOver s number
     unfolding passedOver
     passed-clear e =
-        ap (from-sought (areas s)) (p .sought ∙ sought-is)
-        ∙ ap (λ (n : ℕ). from-sought n (thereAt (findArea read number))) (sym (counted s))
+        let kept = and-right (ltb 0 (passed .next) && eqb (passed .next) (length s)) (passed .kept) (and-left _ apart e) in
+        ap (λ (x : Sought). from-sought (areas s) x (passed .units)) (p .sought ∙ sought-is)
+        ∙ ap (λ (n : ℕ). from-sought n (thereAt (findArea read number)) (passed .units)) (sym (counted s))
+        ∙ ap (from-sought (read .count) (thereAt (findArea read number))) (units-are kept)
         ∙ ap from-read (is-read (sym tested ∙ e))
 
     pub passed-turned : (((ltb 0 (passed .next) && eqb (passed .next) (length s)) && passed .kept) && apart) ≡ false → (none : Area) → none ≡ emptyArea
@@ -127,8 +148,9 @@ module _ (s : List ℕ) (number : ℕ) where
           body = body s;
           from = length s;
           to = length s;
+          units = noUnits;
         } ≡ passedOver s number
-    unfolding passedOver findArea placeFrom areaAt startOf endOf
+    unfolding passedOver findArea placeFrom areaAt startOf endOf overAll sumBy
     passed-turned e none n =
         ap (λ (a : Area). record {
           verdict = Verdict.Refused Refusal.CarriedStatement;
@@ -136,6 +158,7 @@ module _ (s : List ℕ) (number : ℕ) where
           body = body s;
           from = length s;
           to = length s;
+          units = noUnits;
         }) n
         ∙ ap from-read (is-turned (sym tested ∙ e))
 
@@ -150,6 +173,7 @@ module _ (s : List ℕ) (number : ℕ) (head : NumberField) (h : head ≡ headAt
         body = head .next;
         from = passed .from;
         to = passed .to;
+        units = passed .units;
       } ≡ passedOver s number
   pass-clear p d e = rw h (passed-clear s number passed (rw h at p) apart (rw h at d) (sym t ∙ e))
 
@@ -161,5 +185,6 @@ module _ (s : List ℕ) (number : ℕ) (head : NumberField) (h : head ≡ headAt
         body = head .next;
         from = length s;
         to = length s;
+        units = noUnits;
       } ≡ passedOver s number
   pass-turned p d e none n = rw h (passed-turned s number passed (rw h at p) apart (rw h at d) (sym t ∙ e) none n)

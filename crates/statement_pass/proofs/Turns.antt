@@ -1,15 +1,23 @@
--- A turn of the pass over the areas: what was found so far and what is found from here on make what is found of all of them.
-use Rattle.laws.proofs.{ℕ, suc, _+_, _-_, _≤_, _<_, _≡_, refl, sym, ap, _∙_, Bool, true, false, cond, not, _&&_, List, [], _∷_, _++_, map, append-assoc, append-nil, add-one, _⊎_, inl, inr, ⊎-elim, arith, eqb, length, take, set, length-set}
-use Rattle.laws.specs.{every}
+-- A turn of the pass over the areas: what was found so far and what is found from here on make what is found of all of them; and so with the units, which
+-- are added while every area is carried.
+use Rattle.laws.proofs.{ℕ, suc, _+_, _-_, _*_, _≤_, _<_, max, _≡_, refl, sym, ap, _∙_, Bool, true, false, cond, not, _&&_, List, [], _∷_, _++_, map, append-assoc, append-nil, add-one, _⊎_, inl, inr, ⊎-elim, arith, eqb, length, take, set, length-set}
+use Rattle.laws.specs.{every, sumBy}
 use lib.Seq.{take-suc-set}
 use Rattle.laws.proofs.Lists.{and-left, and-right}
 use Rattle.laws.proofs.Turns.{and-none, and-assoc}
+use Rattle.laws.proofs.Tests.{AllTrue, all-true}
 use Rattle.holding.specs.{Area, Found, mostAreas}
 use Rattle.holding_look.specs.{known}
-use Rattle.statement_carried.specs.{areaCarried}
+use Rattle.statement_carried.specs.{fieldsCarried, areaCarried}
+use Rattle.statement_carried.proofs.Bounds.{mostUnits, units-few}
 use Rattle.statement_parse.specs.{AreaRead, areaLineAt}
 use Rattle.statement_places.specs.{itemsRead, placeAfter, areaIn, afterArea}
 use Rattle.statement_pass.specs.{Sought, notThere, soughtFrom}
+
+-- an area that counts has fields that a statement carries
+pub counted-fields : (kept carried : Bool) (area : Area) → carried ≡ areaCarried area → (kept && carried) ≡ true → fieldsCarried area ≡ true
+unfolding areaCarried AllTrue
+counted-fields kept carried area e t = all-true _ (sym e ∙ and-right kept carried t) .0
 
 abbrev pub numbersOf : List Area → List ℕ
 numbersOf = map (λ (area : Area). area .number)
@@ -162,3 +170,40 @@ module _ (s : List ℕ) (at count number : ℕ) where
         → (kept : Bool) (numbers : List ℕ) (so-far after : Sought) → Along kept numbers so-far next i → Looking (i + 1) (read .next) after
         → Along (kept && carried) (set numbers i (read .area .number)) after (read .next) (i + 1)
     along-again room read is carried e kept numbers so-far after along looking = rw (e, is) (along-more kept numbers so-far along room after (rw is at looking))
+
+  -- ---- the units
+
+  -- a sum over the areas so far, while each is carried
+  pub record Summed (units : Area → ℕ) (kept : Bool) (sum next i : ℕ) : Type 0 where
+    pub few : sum ≤ mostUnits * i
+    pub so-far : kept ≡ true → sum + sumBy units (rest i next) ≡ sumBy units all
+
+  pub sum-start : (units : Area → ℕ) → Summed units true 0 at 0
+  sum-start units =
+      let none : count - 0 ≡ count = omega arith in
+      record { few = omega arith; so-far = λ e. rw none (omega arith) }
+
+  module _ (units : Area → ℕ) (kept : Bool) (sum next i : ℕ) (summed : Summed units kept sum next i) where
+    pub sum-all : count ≤ i → kept ≡ true → sum ≡ sumBy units all
+    unfolding sumBy itemsRead
+    sum-all h e = let none : count - i ≡ 0 = omega arith in omega (arith, rw none at (summed .so-far e))
+
+    module _ (h : i < count) (read : AreaRead) (is : read ≡ areaLineAt s next) (carried : Bool) (judged : carried ≡ areaCarried (read .area)) where
+      sum-more : (kept && carried) ≡ true → units (read .area) ≤ mostUnits → Summed units (kept && carried) (sum + units (read .area)) (read .next) (i + 1)
+      unfolding sumBy
+      sum-more e few = record {
+        few = omega (arith, summed .few);
+        so-far = λ e2. rw is (omega (arith, rw (rest-more i next h) at (summed .so-far (and-left kept carried e))));
+      }
+
+      sum-stays : (kept && carried) ≡ false → Summed units (kept && carried) sum (read .next) (i + 1)
+      sum-stays e = record { few = omega (arith, summed .few); so-far = λ e2. absurd (let z : _≡_ {A = ℕ} 0 1 = cc in omega arith) }
+
+      pub sum-again : ((area : Area) → units area ≤ max (area .received) (area .surrendered)) → (after : ℕ)
+          → (((kept && carried) ≡ true) × (after ≡ sum + units (read .area))) ⊎ (((kept && carried) ≡ false) × (after ≡ sum))
+          → Summed units (kept && carried) after (read .next) (i + 1)
+      sum-again within after by =
+          ⊎-elim
+          (λ b. rw (b .1) (sum-more (b .0) (omega (arith, within (read .area), units-few (read .area) (counted-fields kept carried (read .area) judged (b .0))))))
+          (λ b. rw (b .1) (sum-stays (b .0)))
+          by

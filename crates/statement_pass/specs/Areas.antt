@@ -1,6 +1,7 @@
--- The pass over a statement's areas: each is judged as it stands, its number kept, and its place noted if it is the one looked for.
-use Rattle.laws.specs.{ℕ, zero, suc, _+_, _≡_, cond, List, map, eqb, length, take, every}
+-- The pass over a statement's areas: each is judged as it stands, its number kept, its place noted if it is the one looked for, and its units added.
+use Rattle.laws.specs.{ℕ, zero, suc, _+_, _≡_, true, cond, List, map, eqb, length, take, every}
 use Rattle.holding.specs.{Area, Found, mostAreas, emptyArea}
+use Rattle.holding_look.specs.{unitsIn}
 use Rattle.statement_carried.specs.{areaCarried}
 use Rattle.statement_places.specs.{itemsRead, placeAfter, areaIn, afterArea}
 use Rattle.statement_pass.specs.declared.AreasPassed.{AreasPassed}
@@ -29,4 +30,5 @@ pub record PassesAreas (s : List ℕ) (at count number : ℕ) (r : AreasPassed) 
   pub long : length (r .numbers) ≡ mostAreas
   pub numbers : take count (r .numbers) ≡ map (λ (area : Area). area .number) (itemsRead (areaIn s) (afterArea s) count at)
   pub sought : record { found = r .found; area = r .area; from = r .from; to = r .to } ≡ soughtFrom s number 0 count at
+  pub units : r .kept ≡ true → r .units ≡ unitsIn (itemsRead (areaIn s) (afterArea s) count at)
   pub next : r .next ≡ placeAfter (afterArea s) count at

@@ -1,12 +1,12 @@
 -- What a call takes from a statement, in one pass over its bytes.
 use Rattle.laws.specs.{ℕ, List}
-use Rattle.holding_look.specs.{lookedUp}
+use Rattle.holding_look.specs.{lookedUp, unitsOf}
 use Rattle.statement.specs.{readOf}
 use Rattle.statement_places.specs.{headAt, startOf, endOf}
 use Rattle.statement_pass.specs.declared.Passed.{Passed}
 
--- whether the statement carries a holding, the area of a number in the holding that is read, and the places of the bytes behind the first line and of
--- the area's lines
+-- whether the statement carries a holding, the area of a number in the holding that is read, the places of the bytes behind the first line and of the
+-- area's lines, and the units of all areas
 unfoldable pub passedOver : List ℕ → ℕ → Passed
 passedOver s number =
     let read = readOf s in
@@ -17,4 +17,5 @@ passedOver s number =
       body = headAt s .next;
       from = startOf s (looked .found);
       to = endOf s (looked .found);
+      units = unitsOf (read .holding);
     }

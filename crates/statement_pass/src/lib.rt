@@ -1,5 +1,5 @@
-// One pass over a statement's bytes, area by area: whether it carries a holding, the area of a number, and where that area's lines stand. No holding
-// is made.
+// One pass over a statement's bytes, area by area: whether it carries a holding, the area of a number, where that area's lines stand, and the units of
+// all areas. No holding is made.
 ghost use mathlib.Core.Path.{_≡_};
 ghost use Prim.Native.Nat.{_≤_};
 ghost use Rattle.holding.specs.{mostAreas};
@@ -8,12 +8,13 @@ use holding::Area;
 use holding::Found;
 use holding::MOST_AREAS;
 use holding_look::Looked;
+use holding_look::Units;
 use refusals::Refusal;
 use refusals::Verdict;
 use statement_parse::AREAS_READ;
 
 // What a pass over the areas finds: whether a statement carries each, their numbers, the one looked for with the places where its lines start and
-// end, and the place after the last.
+// end, the units of all where each is carried, and the place after the last.
 struct AreasPassed {
     kept: bool,
     numbers: [u16; MOST_AREAS],
@@ -21,6 +22,7 @@ struct AreasPassed {
     area: Area,
     from: usize,
     to: usize,
+    units: Units,
     next: usize,
 }
 
@@ -34,6 +36,9 @@ fn pass_areas(s: &[u8], at: usize, count: usize, number: u16) -> AreasPassed
     let mut named = holding::empty_area();
     let mut from = s.len();
     let mut to = s.len();
+    let mut received: u64 = 0;
+    let mut surrendered: u64 = 0;
+    let mut balance: u64 = 0;
     let mut next = at;
     let mut i: usize = 0;
     while i < count {
@@ -41,6 +46,11 @@ fn pass_areas(s: &[u8], at: usize, count: usize, number: u16) -> AreasPassed
         let area = read.area;
         let carried = statement_judge::area(area);
         kept = kept & carried;
+        if kept {
+            received += area.received;
+            surrendered += area.surrendered;
+            balance += area.received - area.surrendered;
+        }
         numbers[i] = area.number;
         let known = holding_look::is_known(found);
         if (area.number == number) & !known {
@@ -59,18 +69,24 @@ fn pass_areas(s: &[u8], at: usize, count: usize, number: u16) -> AreasPassed
         area: named,
         from,
         to,
+        units: Units {
+            received,
+            surrendered,
+            balance,
+        },
         next,
     }
 }
 
-// What a pass over a statement finds: whether it carries a holding, the area looked up, and the places after its first line and where the area's
-// lines start and end. Where a statement is turned back, no area stands.
+// What a pass over a statement finds: whether it carries a holding, the area looked up, the places after its first line and where the area's lines
+// start and end, and the units of all areas. Where a statement is turned back, no area stands.
 pub struct Passed {
     pub verdict: Verdict,
     pub looked: Looked,
     pub body: usize,
     pub from: usize,
     pub to: usize,
+    pub units: Units,
 }
 
 pub fn pass(s: &[u8], number: u16) -> Passed
@@ -87,6 +103,7 @@ pub fn pass(s: &[u8], number: u16) -> Passed
     if (0 < next) & (next == s.len()) & areas.kept & apart {
         let found = areas.found;
         let area = areas.area;
+        let units = areas.units;
         return Passed {
             verdict: Verdict::Accepted,
             looked: Looked {
@@ -98,6 +115,7 @@ pub fn pass(s: &[u8], number: u16) -> Passed
             body,
             from: areas.from,
             to: areas.to,
+            units,
         };
     }
     let none = holding::empty_area();
@@ -112,5 +130,10 @@ pub fn pass(s: &[u8], number: u16) -> Passed
         body,
         from: s.len(),
         to: s.len(),
+        units: Units {
+            received: 0,
+            surrendered: 0,
+            balance: 0,
+        },
     }
 }

@@ -12,14 +12,15 @@ use Rattle.step_outcome.proofs.Laws.{answered-clear}
 use Rattle.step.specs.{applied}
 use Rattle.statement_format.specs.{statementOf}
 use Rattle.book_print.specs.{reportText, refusalText, endText}
-use Rattle.book_listing.specs.{linesOf, columnTaken, entryTaken, parsedTaken, lineTaken, entryTable, parsedTable, ifAccepted, Run, start, next, printed, runFrom, listFrom, longestBook, listingOf}
+use Rattle.book_listing.specs.{linesOf, columnTaken, entryTaken, parsedTaken, lineTaken, entryTable, parsedTable, ifAccepted, Run, start, next, printed, runFrom, closing, listFrom, longestBook, listingOf}
 use Rattle.book_listing.proofs.Folding.{list-line, list-none}
-use Rattle.book_room.proofs.Runs.{RunKept, start-kept, next-kept}
+use Rattle.book_room.proofs.Feet.{kept-foot}
+use Rattle.book_room.proofs.Runs.{RunKept, start-kept, next-kept, run-kept}
 use Rattle.call_book.proofs.Taken.{line-leaves, next-refused, next-accepted, printed-refused, printed-accepted}
 use Rattle.theorem_running.specs.{actsIn, RunAccounted, linesRun, actsFrom, reportsIn, BookAccounted}
 use Rattle.theorem_running.proofs.Standing.{column-first}
 use Rattle.theorem_running.proofs.Following.{Follows, follows-as, none-follow, column-follows, act-follows, follows-accounted}
-use Rattle.theorem_running.proofs.ReportLines.{report-told, refusal-untold, end-untold}
+use Rattle.theorem_running.proofs.ReportLines.{report-told, refusal-untold, foot-untold, end-untold}
 
 -- the lines from a run on
 abbrev LinesFollow : List (List ℕ) → Run → Type 0
@@ -106,9 +107,14 @@ module _ (run : Run) (line : List ℕ) (lines : List (List ℕ)) where
     one-follows (Verdict.Refused r) e = refused-follows r e
     one-follows Verdict.Accepted e = accepted-follows e (entryOf line) refl
 
+closing-untold : (run : Run) → RunKept run → reportsIn (closing run) ≡ []
+closing-untold run kept =
+    ap (λ (l : List ℕ). reportsIn (l ++ endText (run .accepted) (run .refused))) (sym (kept-foot (run .holding) (kept .holding)))
+    ∙ foot-untold _ _ _ (endText (run .accepted) (run .refused)) ∙ end-untold (run .accepted) (run .refused)
+
 lines-follow : (lines : List (List ℕ)) (run : Run) → RunKept run → LinesFollow lines run
 unfolding runFrom actsFrom
-lines-follow [] run kept = follows-as (ap reportsIn (list-none run) ∙ end-untold (run .accepted) (run .refused)) (none-follow (run .own) (run .holding))
+lines-follow [] run kept = follows-as (ap reportsIn (list-none run) ∙ closing-untold run kept) (none-follow (run .own) (run .holding))
 lines-follow (line ∷ lines) run kept = one-follows run line lines kept (lines-follow lines) _ refl
 
 -- THE THEOREM: demand 3 for every book, and every area's number
@@ -124,10 +130,5 @@ book-accounted book n = go (ltb longestBook (length book))
     go true = follows-accounted [] _ _ _ _ n (follows-as (refusal-untold 0 Refusal.Form (endText 0 1) ∙ end-untold 0 1) (none-follow [] emptyHolding))
 
 -- and the table that served is one
-run-kept : (lines : List (List ℕ)) (run : Run) → RunKept run → RunKept (runFrom run lines)
-unfolding runFrom
-run-kept [] run kept = kept
-run-kept (line ∷ lines) run kept = run-kept lines (next run line) (next-kept run line kept)
-
 pub book-table : (book : List ℕ) → isTable (runFrom start (linesRun book) .own) ≡ true
 book-table book = run-kept (linesRun book) start start-kept .table

@@ -22,14 +22,14 @@ use Rattle.theorem_round_trips.proofs.Trips.{accepts-that}
 use Rattle.call_output.specs.{withRoom}
 use Rattle.call_answer.specs.{entryBytes, callBytes, callVerdict, callWeighed}
 use Rattle.call_answer.proofs.Smaller.{call-clear}
-use Rattle.call_book.specs.{Caller, begin, reportIn, taken, afterCall, shownAfter}
+use Rattle.call_book.specs.{Caller, begin, reportIn, taken, afterCall, shownAfter, callerAfter}
 use Rattle.call_book.proofs.Split.{statement-split, report-split}
 use Rattle.line.proofs.Columns.{isColumn}
 use Rattle.call_book.proofs.ColumnLines.{column-line}
 use Rattle.call_book.proofs.Taken.{act-kept}
 use Rattle.call_book.proofs.Answers.{answer-refused, answer-accepted, by-answer, by-written, minus-number}
 use Rattle.call_book.proofs.Bound.{table-is}
-use Rattle.theorem_running.specs.{actsIn, answerTo, ifTaken, callerAfter, sentFrom, reportsFrom, CallsAccounted}
+use Rattle.theorem_running.specs.{actsIn, answerTo, ifTaken, sentFrom, reportsFrom, CallsAccounted}
 use Rattle.theorem_running.proofs.Standing.{column-first}
 use Rattle.theorem_running.proofs.Following.{Follows, none-follow, column-follows, act-follows, follows-accounted}
 

@@ -11,7 +11,7 @@ use Rattle.line.specs.{bodyOf, letterOf, noRule, ruleOf, lineRule, conditions, 
 use Rattle.table.specs.{isTable}
 use Rattle.table_bytes.specs.{numbersOf, decodable}
 use Rattle.holding.specs.{placeFrom, findArea}
-use Rattle.holding_look.specs.{areaAt}
+use Rattle.holding_look.specs.{areaAt, overAll}
 use Rattle.stocks.specs.{areaStock}
 use Rattle.statement_carried.specs.{yearsCarried, amountsCarried, fieldsCarried, areaCarried, carried}
 use Rattle.step_outcome.specs.{answered, placed, areaCases}
@@ -23,7 +23,8 @@ use Rattle.statement_format.specs.{startText, numberText, joined, texts, yearsT
 use Rattle.statement_cursor.specs.{fieldOf, fieldBy, numberBefore, numberAt, startAt, lineAt}
 use Rattle.statement_parse.specs.{itemsFrom, subsFrom, subsAt, yearsAt, amountsAt, areaLineAt, areasFrom, areasAt, holdingAt}
 use Rattle.statement.specs.{acceptable, readOf}
-use Rattle.book_print.specs.{changeText, reportText, pairText, refusalText, endText}
+use Rattle.book_print.specs.{changeText, reportText, pairText, refusalText, footText, endText}
+use Rattle.book_foot.specs.{allCarried, summable, footOf}
 use Rattle.book_listing.specs.{linesOf, entryTaken, parsedTaken, lineTaken, tableAfter, start, next, printedFor, printed, runFrom, printedFrom, listFrom, listingOf}
 use Rattle.call_output.specs.{withRoom}
 use Rattle.call_answer.specs.{tableVerdict, callVerdict, entryBytes, callBytes, callWeighed, callAnswer, callOutput}
@@ -56,18 +57,21 @@ returns =
     ∷ (82 ∷ 44 ∷ 55 ∷ 44 ∷ 50 ∷ 48 ∷ 49 ∷ 51 ∷ 44 ∷ 50 ∷ 48 ∷ 49 ∷ 51 ∷ 44 ∷ 53 ∷ 48 ∷ 44 ∷ 53 ∷ 48 ∷ 44 ∷ 48 ∷ 44 ∷ 57 ∷ 48 ∷ [])
     ∷ []
 
--- and the others: X,10,28; W,7,90; E,10,1
+-- and the others: X,10,28; W,7,90; F,105,105,0; E,10,1
 abbrev refusal : List ℕ
 refusal = 88 ∷ 44 ∷ 49 ∷ 48 ∷ 44 ∷ 50 ∷ 56 ∷ []
 
 abbrev withdrawal : List ℕ
 withdrawal = 87 ∷ 44 ∷ 55 ∷ 44 ∷ 57 ∷ 48 ∷ []
 
+abbrev foot : List ℕ
+foot = 70 ∷ 44 ∷ 49 ∷ 48 ∷ 53 ∷ 44 ∷ 49 ∷ 48 ∷ 53 ∷ 44 ∷ 48 ∷ []
+
 abbrev closing : List ℕ
 closing = 69 ∷ 44 ∷ 49 ∷ 48 ∷ 44 ∷ 49 ∷ []
 
 pub record Examples : Type 0 where
-  pub listing-reports : reportsIn (texts ended (returns ++ (refusal ∷ withdrawal ∷ closing ∷ []))) ≡ texts ended (returns ++ (withdrawal ∷ []))
+  pub listing-reports : reportsIn (texts ended (returns ++ (refusal ∷ withdrawal ∷ foot ∷ closing ∷ []))) ≡ texts ended (returns ++ (withdrawal ∷ []))
   pub book-acts : actsFrom start (linesRun book) ≡ acts
   pub book-reports : reportsIn (listingOf book) ≡ report
   pub calls-sent : sentFrom (begin [] (room 64)) lines ≡ acts
@@ -75,6 +79,6 @@ pub record Examples : Type 0 where
   pub short-output : sentFrom (begin [] (room 30)) lines ≡ []
 
 pub examples-hold : Examples
-unfolding some every distinct keep sumBy allOf bufferAfter weighed weighAll smallest tonnes changeBetween digitsIn digits widthTo holds extend split append more headed numberIn letterIn parsed areaAndYear openRule fileRule withdrawRule bodyOf letterOf noRule ruleOf lineRule conditions entryOf isTable numbersOf decodable placeFrom findArea areaAt areaStock yearsCarried amountsCarried fieldsCarried areaCarried carried answered placed areaCases openCases opened fileCases changeOf filedArea returnOf filed withdrawCases withdrawn applied startText numberText joined texts yearsText amountsText areaText statementOf fieldOf fieldBy numberBefore numberAt startAt lineAt itemsFrom subsFrom subsAt yearsAt amountsAt areaLineAt areasFrom areasAt holdingAt acceptable readOf changeText reportText pairText refusalText endText linesOf entryTaken parsedTaken lineTaken tableAfter start next printedFor printed runFrom printedFrom listFrom listingOf tableVerdict callVerdict entryBytes callBytes withRoom callWeighed callAnswer callOutput begin isColumnLine beforeReport afterCall shownAfter sentFrom reportsFrom linesRun actsFrom reportsIn
+unfolding some every distinct keep sumBy allOf bufferAfter weighed weighAll smallest tonnes changeBetween digitsIn digits widthTo holds extend split append more headed numberIn letterIn parsed areaAndYear openRule fileRule withdrawRule bodyOf letterOf noRule ruleOf lineRule conditions entryOf isTable numbersOf decodable placeFrom findArea areaAt areaStock yearsCarried amountsCarried fieldsCarried areaCarried carried answered placed areaCases openCases opened fileCases changeOf filedArea returnOf filed withdrawCases withdrawn applied startText numberText joined texts yearsText amountsText areaText statementOf fieldOf fieldBy numberBefore numberAt startAt lineAt itemsFrom subsFrom subsAt yearsAt amountsAt areaLineAt areasFrom areasAt holdingAt acceptable readOf changeText reportText pairText refusalText footText endText overAll allCarried summable footOf linesOf entryTaken parsedTaken lineTaken tableAfter start next printedFor printed runFrom printedFrom listFrom listingOf tableVerdict callVerdict entryBytes callBytes withRoom callWeighed callAnswer callOutput begin isColumnLine beforeReport afterCall shownAfter sentFrom reportsFrom linesRun actsFrom reportsIn
 examples-hold =
     record { listing-reports = refl; book-acts = refl; book-reports = refl; calls-sent = refl; calls-reports = refl; short-output = refl }

@@ -4,8 +4,7 @@ use lib.IntN.{ℤ, pos, negsuc}
 use Rattle.laws.specs.{every}
 use Rattle.laws.proofs.Lists.{and-left, and-right}
 use Rattle.call_answer.specs.{callAnswer, callOutput}
-use Rattle.call_book.specs.{Caller, isColumnLine, taken, answered, afterCall}
-use Rattle.theorem_running.specs.{callerAfter}
+use Rattle.call_book.specs.{Caller, isColumnLine, taken, answered, afterCall, callerAfter}
 
 call-leaves : (caller : Caller) (line : List ℕ) → isColumnLine line ≡ false → afterCall caller line .table ≡ caller .table
 unfolding afterCall

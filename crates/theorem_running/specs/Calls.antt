@@ -5,13 +5,8 @@ use Rattle.table_bytes.specs.{numbersOf}
 use Rattle.line_entry.specs.{AreaAct}
 use Rattle.line.specs.{entryOf}
 use Rattle.call_answer.specs.{callAnswer}
-use Rattle.call_book.specs.{Caller, begin, afterCall, shownAfter}
+use Rattle.call_book.specs.{Caller, begin, afterCall, shownAfter, callerAfter}
 use Rattle.theorem_running.specs.Running.{actsIn, RunAccounted}
-
--- the program after the lines
-unfoldable pub callerAfter : Caller → List (List ℕ) → Caller
-callerAfter caller [] = caller
-callerAfter caller (line ∷ lines) = callerAfter (afterCall caller line) lines
 
 -- what the call answers to a line
 abbrev pub answerTo : Caller → List ℕ → ℤ

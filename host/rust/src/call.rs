@@ -1,6 +1,7 @@
-//! The field unit's call: a statement, a table and a line to the bytes after it. `engine` is the same call of the proved
-//! engine, where its archive is linked.
+//! The field unit's calls: a statement, a table and a line to the bytes after it, and a statement to its foot. The engine's
+//! are the same calls of the proved engine, where its archive is linked.
 
+use crate::listing::push_foot;
 use crate::parsing::{parse, Entry};
 use crate::refusal::Refusal;
 use crate::statement;
@@ -8,6 +9,18 @@ use crate::tables::Table;
 
 /// Statement, table, line and output; the bytes written, or a refusal's number with a minus sign.
 pub type Call = fn(&[u8], &[u8], &[u8], &mut [u8]) -> i64;
+
+/// Statement and output; the bytes written, or a refusal's number with a minus sign.
+pub type FootCall = fn(&[u8], &mut [u8]) -> i64;
+
+/// The calls of one implementation.
+#[derive(Debug, Clone, Copy)]
+pub struct Calls {
+    pub line: Call,
+    pub foot: FootCall,
+}
+
+pub const TWIN: Calls = Calls { line: twin, foot: twin_foot };
 
 /// Everything that refuses is weighed from the smallest number up: the line, the table, the statement, the state.
 pub fn account_line(statement: &[u8], table: &[u8], line: &[u8]) -> Result<Vec<u8>, Refusal> {
@@ -27,12 +40,27 @@ pub fn account_line(statement: &[u8], table: &[u8], line: &[u8]) -> Result<Vec<u
     Ok(out)
 }
 
+/// The foot of the listing of a book that leads to the statement.
+pub fn foot(statement: &[u8]) -> Result<Vec<u8>, Refusal> {
+    let mut out = Vec::new();
+    push_foot(&mut out, &statement::read(statement)?);
+    Ok(out)
+}
+
 pub fn twin(statement: &[u8], table: &[u8], line: &[u8], out: &mut [u8]) -> i64 {
-    let written = account_line(statement, table, line).and_then(|result| {
-        out.get_mut(..result.len()).ok_or(Refusal::Room)?.copy_from_slice(&result);
-        Ok(result.len())
+    written(account_line(statement, table, line), out)
+}
+
+pub fn twin_foot(statement: &[u8], out: &mut [u8]) -> i64 {
+    written(foot(statement), out)
+}
+
+fn written(result: Result<Vec<u8>, Refusal>, out: &mut [u8]) -> i64 {
+    let length = result.and_then(|bytes| {
+        out.get_mut(..bytes.len()).ok_or(Refusal::Room)?.copy_from_slice(&bytes);
+        Ok(bytes.len())
     });
-    match written {
+    match length {
         Ok(length) => length as i64,
         Err(refusal) => -i64::from(refusal.number()),
     }
@@ -62,6 +90,21 @@ pub unsafe extern "C" fn carbon_account_line_twin(
     )
 }
 
+/// The twin's foot for C, with the signature of the engine's `carbon_foot`.
+///
+/// # Safety
+/// Each pointer is valid for its length; the output overlaps nothing else.
+#[no_mangle]
+pub unsafe extern "C" fn carbon_foot_twin(
+    statement: *const u8,
+    statement_length: usize,
+    out: *mut u8,
+    out_length: usize,
+) -> i64 {
+    use std::slice::{from_raw_parts, from_raw_parts_mut};
+    twin_foot(from_raw_parts(statement, statement_length), from_raw_parts_mut(out, out_length))
+}
+
 #[cfg(engine)]
 extern "C" {
     fn carbon_account_line(
@@ -74,6 +117,8 @@ extern "C" {
         out: *mut u8,
         out_length: usize,
     ) -> i64;
+
+    fn carbon_foot(statement: *const u8, statement_length: usize, out: *mut u8, out_length: usize) -> i64;
 }
 
 #[cfg(engine)]
@@ -93,10 +138,16 @@ fn engine(statement: &[u8], table: &[u8], line: &[u8], out: &mut [u8]) -> i64 {
     }
 }
 
-/// The engine's call, where this was built with its archive.
-pub fn engine_call() -> Option<Call> {
+#[cfg(engine)]
+fn engine_foot(statement: &[u8], out: &mut [u8]) -> i64 {
+    // As above.
+    unsafe { carbon_foot(statement.as_ptr(), statement.len(), out.as_mut_ptr(), out.len()) }
+}
+
+/// The engine's calls, where this was built with its archive.
+pub fn engine_calls() -> Option<Calls> {
     #[cfg(engine)]
-    return Some(engine);
+    return Some(Calls { line: engine, foot: engine_foot });
     #[cfg(not(engine))]
     return None;
 }

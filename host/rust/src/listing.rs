@@ -1,6 +1,6 @@
 //! What the program `book` prints for a book.
 
-use crate::holding::Holding;
+use crate::holding::{Area, Holding};
 use crate::parsing::{parse, Entry};
 use crate::ranges::BOOK_BYTES;
 use crate::refusal::Refusal;
@@ -52,8 +52,16 @@ pub fn book(book: &[u8]) -> Vec<u8> {
             }
         }
     }
+    push_foot(&mut listing, &account.holding);
     push_line(&mut listing, b'E', &[accepted, refused]);
     listing
+}
+
+/// "F, then units received, units surrendered and balance over all areas, withdrawn ones included"
+pub fn push_foot(text: &mut Vec<u8>, holding: &Holding) {
+    let over_all = |units: fn(&Area) -> u64| holding.areas.iter().map(units).sum();
+    let (received, surrendered) = (over_all(|area| area.received), over_all(|area| area.surrendered));
+    push_line(text, b'F', &[received, surrendered, over_all(Area::balance)]);
 }
 
 /// The lines of a book, each with its end: a byte 10 at the book's end adds none.

@@ -23,7 +23,7 @@ returns-2 c =
     subst (λ (r : Reached). RunsIf (mayRunFrom book 0 r) book 0 r longestBook out (lines .put-lines .last .1 .1 .1 .1 .0) (lines .put-lines .result))
     (begun .nothing-reached .ensures) (lines .put-lines .ensures) in
     let ran = run-of book 0 nothingReached longestBook out _ _ (may-begin book (begun .before .if1 .left)) by in
-    wrote-as (listing-whole book (begun .before .if1 .left) _ (ran .run)) (wrote-then (ran .wrote) (end .put-end .ensures .wrote))
+    wrote-as (listing-whole book (begun .before .if1 .left) _ (ran .run)) (wrote-then (ran .wrote) (end .put-closing .ensures .wrote))
 
 pub put-listing-spec : {M : Type 1} → Rattle.book_parts.proofs.put_listing.Statement.statement M
 put-listing-spec = tie.close (tie.spec (λ c κs. search needs) (λ c. search needs) returns (λ c κs. search needs) (λ c κs. search needs) (λ c κs. search needs)

@@ -4,7 +4,7 @@ use Rattle.book_run.proofs.Runs.{run-of}
 use Rattle.book_parts.proofs.Parts.{comes, part-more, part-last, refused-comes, refused-part}
 use Rattle.book_parts.proofs.put_part.Tie as tie
 
--- there is room for what the lines of a part print, and for E
+-- there is room for what the lines of a part print, for the foot and for E
 returns : tie.Need-returns
 returns c =
     let lines = c .before .before in
@@ -17,7 +17,7 @@ returns-2 c =
     let lines = c .before .before .before .before .before in
     let may = sym (lines .before .before .before .may-run .ensures) ∙ lines .before .before .if1 .taken in
     let ran = run-of _ _ _ _ _ _ _ may (lines .put-lines .ensures) in
-    (part-last _ _ _ may ran (omega arith) (c .before .before .before .if2 .left) (c .put-end .ensures), comes _ _ _ may ran (omega arith) _)
+    (part-last _ _ _ may ran (omega arith) (c .before .before .before .if2 .left) (c .put-closing .ensures), comes _ _ _ may ran (omega arith) _)
 
 returns-3 : tie.Need-returns-3
 returns-3 c =

@@ -13,12 +13,12 @@ head-is c = c .number .ensures .0 ∙ ap (λ p. numberAt (c .before .before .bef
 
 returns : tie.Need-returns
 returns c =
-    let d = c .before .before .before in
+    let d = c .before .before .before .before in
     let x = d .before .before .before .before in
     let h = x .before in
     let a = h .before .before .before .args in
     pass-clear (a .s .now) (a .number) (h .number .result) (head-is h) (x .pass-areas .result) (d .numbers3 .result) _ refl (x .pass-areas .ensures)
-    (d .numbers3 .ensures) (c .before .if1 .taken)
+    (d .numbers3 .ensures) (c .before .before .if1 .taken)
 
 returns-2 : tie.Need-returns-2
 returns-2 c =

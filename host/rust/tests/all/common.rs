@@ -1,12 +1,17 @@
-use carbon_twin::call::{engine_call, twin, Call};
+use carbon_twin::call::{engine_calls, Call, Calls, TWIN};
 
 pub const EMPTY: &[u8] = b"H,0\n";
 
-/// The twin's call, and the engine's where its archive is linked.
-pub fn calls() -> Vec<(&'static str, Call)> {
-    let mut calls: Vec<(&'static str, Call)> = vec![("twin", twin)];
-    calls.extend(engine_call().map(|engine| ("engine", engine)));
+/// The twin's calls, and the engine's where its archive is linked.
+pub fn both_calls() -> Vec<(&'static str, Calls)> {
+    let mut calls = vec![("twin", TWIN)];
+    calls.extend(engine_calls().map(|engine| ("engine", engine)));
     calls
+}
+
+/// Of each, the call that takes a line.
+pub fn calls() -> Vec<(&'static str, Call)> {
+    both_calls().into_iter().map(|(name, calls)| (name, calls.line)).collect()
 }
 
 /// The bytes written, or the refusal's number. The output has room for any answer.

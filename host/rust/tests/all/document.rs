@@ -1,6 +1,6 @@
 //! The examples of document 01 and of the guide's section 6, as a book and as calls.
 
-use crate::common::{calls, Recorder};
+use crate::common::{both_calls, calls, Recorder};
 use carbon_twin::listing;
 
 const PRINTED_BOOK: &str = "T,G,D,0,1,4.5,10,20
@@ -21,6 +21,7 @@ R,7,2011,2012,-15,0,15,40
 R,7,2013,2013,50,50,0,90
 X,10,28
 W,7,90
+F,105,105,0
 E,10,1
 ";
 
@@ -36,8 +37,8 @@ fn the_printed_book() {
 
 #[test]
 fn the_printed_book_by_calls() {
-    for (name, call) in calls() {
-        let mut recorder = Recorder::new(call);
+    for (name, calls) in both_calls() {
+        let mut recorder = Recorder::new(calls.line);
         let refused: Vec<(usize, i64)> = (1..)
             .zip(PRINTED_BOOK.lines())
             .filter_map(|(number, line)| recorder.enter(line).err().map(|refusal| (number, refusal)))
@@ -54,6 +55,9 @@ fn the_printed_book_by_calls() {
             "H,1\nA,7,2010,2014,2011,1,3,135000,105,105,1\nS,1,100,D,2011,D,3,2011\n",
             "{name}"
         );
+        let mut foot = [0; 12];
+        assert_eq!((calls.foot)(&recorder.statement, &mut foot), 12, "{name}");
+        assert_eq!(&foot, b"F,105,105,0\n", "{name}");
     }
 }
 
@@ -120,10 +124,10 @@ fn the_guides_partly_felled_stand() {
 
 #[test]
 fn ends_of_a_book() {
-    assert_eq!(book(b""), "E,0,0\n");
-    assert_eq!(book(b"\n"), "X,1,1\nE,0,1\n");
-    assert_eq!(book(b"A,1,2010\n\nW,1"), "X,2,1\nW,1,0\nE,2,1\n");
+    assert_eq!(book(b""), "F,0,0,0\nE,0,0\n");
+    assert_eq!(book(b"\n"), "X,1,1\nF,0,0,0\nE,0,1\n");
+    assert_eq!(book(b"A,1,2010\n\nW,1"), "X,2,1\nW,1,0\nF,0,0,0\nE,2,1\n");
     let longest = "x\n".repeat(32_768);
-    assert!(book(longest.as_bytes()).ends_with("X,32768,1\nE,0,32768\n"));
+    assert!(book(longest.as_bytes()).ends_with("X,32768,1\nF,0,0,0\nE,0,32768\n"));
     assert_eq!(book((longest + "\n").as_bytes()), "X,0,1\nE,0,1\n");
 }

@@ -1,9 +1,9 @@
-//! The call of both on a row's bytes.
+//! The calls of both on a row's bytes.
 
 use crate::pair::Pair;
 use crate::rows::{rows, Row};
 use crate::timing::least_of_batches;
-use carbon_twin::call::{engine_call, twin, Call};
+use carbon_twin::call::{engine_calls, Calls, TWIN};
 use std::cell::RefCell;
 use std::hint::black_box;
 
@@ -11,32 +11,32 @@ use std::hint::black_box;
 const ROOM: usize = 15_888;
 const FILLED: u8 = 0xA5;
 
-pub fn both() -> Result<Pair<Call>, String> {
-    let engine = engine_call().ok_or("built without ENGINE_ARCHIVE: there is no engine to measure")?;
-    Ok(Pair { engine, twin })
+pub fn both() -> Result<Pair<Calls>, String> {
+    let engine = engine_calls().ok_or("built without ENGINE_ARCHIVE: there is no engine to measure")?;
+    Ok(Pair { engine, twin: TWIN })
 }
 
-/// Whether both take the row's line and write the same bytes.
-pub fn agree(calls: Pair<Call>, row: &Row) -> Result<(), String> {
-    let Pair { engine, twin } = calls.map(|call| {
+/// Whether both take the row's line, or give its foot, and write the same bytes.
+pub fn agree(calls: Pair<Calls>, row: &Row) -> Result<(), String> {
+    let Pair { engine, twin } = calls.map(|calls| {
         let mut out = vec![FILLED; ROOM];
-        (make(call, row, &mut out), out)
+        (make(calls, row, &mut out), out)
     });
     if engine != twin {
         return Err(format!("{}: the answers differ, {} and {}", row.name, engine.0, twin.0));
     }
     if twin.0 < 0 {
-        return Err(format!("{}: the line is refused, {}", row.name, twin.0));
+        return Err(format!("{}: it is refused, {}", row.name, twin.0));
     }
     Ok(())
 }
 
 /// Nanoseconds of a call. Both write to the same output.
-pub fn time(calls: Pair<Call>, row: &Row) -> Pair<f64> {
+pub fn time(calls: Pair<Calls>, row: &Row) -> Pair<f64> {
     let out = &RefCell::new(vec![FILLED; ROOM]);
-    least_of_batches(calls.map(|call| {
+    least_of_batches(calls.map(|calls| {
         move || {
-            make(call, row, &mut out.borrow_mut());
+            make(calls, row, &mut out.borrow_mut());
         }
     }))
 }
@@ -44,7 +44,7 @@ pub fn time(calls: Pair<Call>, row: &Row) -> Pair<f64> {
 /// Makes the calls of a row so many times, by the engine or the twin.
 pub fn only(who: &str, row: usize, times: u32) -> Result<(), String> {
     let calls = both()?;
-    let call = match who {
+    let calls = match who {
         "engine" => calls.engine,
         "twin" => calls.twin,
         _ => return Err(format!("{who} is neither engine nor twin")),
@@ -53,11 +53,15 @@ pub fn only(who: &str, row: usize, times: u32) -> Result<(), String> {
     let row = rows.get(row).ok_or_else(|| format!("there is no row {row}"))?;
     let mut out = vec![FILLED; ROOM];
     for _ in 0..times {
-        make(call, row, &mut out);
+        make(calls, row, &mut out);
     }
     Ok(())
 }
 
-fn make(call: Call, row: &Row, out: &mut [u8]) -> i64 {
-    black_box(call(black_box(&row.statement), &[], black_box(row.line.as_bytes()), black_box(out)))
+fn make(calls: Calls, row: &Row, out: &mut [u8]) -> i64 {
+    let (statement, out) = (black_box(row.statement.as_slice()), black_box(out));
+    black_box(match row.line {
+        Some(line) => (calls.line)(statement, &[], black_box(line.as_bytes()), out),
+        None => (calls.foot)(statement, out),
+    })
 }

@@ -1,4 +1,4 @@
-//! The calls that are measured: what is held, and the line that comes.
+//! The calls that are measured: what is held, and the line that comes, or none where the foot is asked.
 
 use carbon_twin::forest::Forest;
 use carbon_twin::listing::Account;
@@ -7,20 +7,22 @@ use carbon_twin::statement;
 pub struct Row {
     pub name: String,
     pub statement: Vec<u8>,
-    pub line: &'static str,
+    pub line: Option<&'static str>,
 }
 
 pub fn rows() -> Vec<Row> {
     let mut rows = Vec::new();
     let mut add = |held: &str, statement: Vec<u8>, lines: &[&'static str]| {
         for line in lines {
-            rows.push(Row { name: format!("call, {held}, {line}"), statement: statement.clone(), line });
+            rows.push(Row { name: format!("call, {held}, {line}"), statement: statement.clone(), line: Some(line) });
         }
     };
     add("empty holding", held(0, 0), &["A,1,2008", "T,G,D,0,1,4.5,10,20"]);
     add("one area of four sub-areas", held(1, 4), &["C,1,1,2012", "R,1,2012"]);
     add("four areas of four sub-areas", held(4, 4), &["R,4,2012"]);
     add("sixteen areas of sixteen sub-areas", held(16, 16), &["C,16,16,2012", "R,16,2012", "W,1"]);
+    let name = "foot, sixteen areas of sixteen sub-areas".to_string();
+    rows.push(Row { name, statement: held(16, 16), line: None });
     rows
 }
 

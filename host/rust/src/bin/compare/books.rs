@@ -1,16 +1,22 @@
 //! Whole books: what a program prints for them, against the twin's listing.
 
 use crate::cases::Cases;
+use crate::kinds::Kinds;
 use crate::random::Random;
 use carbon_twin::listing::book;
 use carbon_twin::ranges::BOOK_BYTES;
 use std::io::Write;
 use std::process::{Command, Stdio};
 
+/// Below so many books, a kind may well be missing by chance.
+const ENOUGH_FOR_EVERY_KIND: u64 = 500;
+
 pub fn compare(program: &str, books: u64, seed: u64) -> Result<String, String> {
     let mut random = Random::new(seed);
+    let mut kinds = Kinds::default();
     for number in 1..=books {
         let text = a_book(&mut random);
+        kinds.count(&text);
         let printed = run(program, &text).map_err(|problem| format!("{program}: {problem}"))?;
         let expected = book(&text);
         if printed != expected {
@@ -20,7 +26,10 @@ pub fn compare(program: &str, books: u64, seed: u64) -> Result<String, String> {
             ));
         }
     }
-    Ok(format!("{program}: {books} books listed alike, seed {seed}"))
+    if books >= ENOUGH_FOR_EVERY_KIND && !kinds.missing().is_empty() {
+        return Err(format!("{kinds}\nno book came of the kind: {}", kinds.missing().join(", ")));
+    }
+    Ok(format!("{program}: {books} books listed alike, seed {seed}\n{kinds}"))
 }
 
 /// How many lines `book` lists at a time.

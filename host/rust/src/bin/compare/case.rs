@@ -1,10 +1,18 @@
 //! One call, and what came of it.
 
-use carbon_twin::call::Call;
+use carbon_twin::call::{account_line, foot, Calls};
 use std::fmt;
 
+#[derive(Debug, Clone, Copy, PartialEq, Eq)]
+pub enum Asked {
+    Line,
+    Foot,
+}
+
+/// The table and the line of a foot are empty, and not handed in.
 #[derive(Debug, Clone, PartialEq, Eq)]
 pub struct Case {
+    pub asked: Asked,
     pub statement: Vec<u8>,
     pub table: Vec<u8>,
     pub line: Vec<u8>,
@@ -24,11 +32,31 @@ pub struct Outcome {
 }
 
 impl Case {
-    pub fn run(&self, call: Call) -> Outcome {
+    pub fn line(statement: Vec<u8>, table: Vec<u8>, line: Vec<u8>) -> Case {
+        Case { asked: Asked::Line, statement, table, line, room: FULL_ROOM }
+    }
+
+    pub fn foot(statement: Vec<u8>) -> Case {
+        Case { asked: Asked::Foot, statement, table: Vec::new(), line: Vec::new(), room: FULL_ROOM }
+    }
+
+    pub fn run(&self, calls: Calls) -> Outcome {
         let mut memory = vec![FILLED; self.room + 2 * MARGIN];
         let out = &mut memory[MARGIN..MARGIN + self.room];
-        let answer = call(&self.statement, &self.table, &self.line, out);
+        let answer = match self.asked {
+            Asked::Line => (calls.line)(&self.statement, &self.table, &self.line, out),
+            Asked::Foot => (calls.foot)(&self.statement, out),
+        };
         Outcome { answer, memory }
+    }
+
+    /// The bytes that are to be written, 0 where the case is refused.
+    pub fn need(&self) -> usize {
+        let written = match self.asked {
+            Asked::Line => account_line(&self.statement, &self.table, &self.line),
+            Asked::Foot => foot(&self.statement),
+        };
+        written.map_or(0, |out| out.len())
     }
 
     pub fn letter(&self) -> char {
@@ -52,8 +80,13 @@ impl Outcome {
 impl fmt::Display for Case {
     fn fmt(&self, f: &mut fmt::Formatter<'_>) -> fmt::Result {
         writeln!(f, "  statement \"{}\"", self.statement.escape_ascii())?;
-        writeln!(f, "  table     {:?}", self.table)?;
-        writeln!(f, "  line      \"{}\"", self.line.escape_ascii())?;
+        match self.asked {
+            Asked::Line => {
+                writeln!(f, "  table     {:?}", self.table)?;
+                writeln!(f, "  line      \"{}\"", self.line.escape_ascii())?;
+            }
+            Asked::Foot => writeln!(f, "  asked     the foot")?,
+        }
         write!(f, "  room      {}", self.room)
     }
 }

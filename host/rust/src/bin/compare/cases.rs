@@ -1,6 +1,6 @@
 //! The cases of a run: books taken line by line, holdings made up at the edges, and each of them damaged.
 
-use crate::case::{Case, FULL_ROOM};
+use crate::case::Case;
 use crate::lines::{line, mood, Mood};
 use crate::random::Random;
 use crate::{damage, holdings, tables};
@@ -45,7 +45,16 @@ impl Cases {
     }
 
     pub fn next(&mut self) -> Case {
-        let mut case = if self.random.one_in(4) { self.made_up() } else { self.next_of_book() };
+        let case = if self.random.one_in(4) { self.made_up() } else { self.next_of_book() };
+        if self.random.one_in(8) {
+            self.foot_of(case.statement)
+        } else {
+            self.changed(case)
+        }
+    }
+
+    /// The line with something damaged, with another room, or as it is.
+    fn changed(&mut self, mut case: Case) -> Case {
         match self.random.below(8) {
             0 => case.line = damage::damaged(&mut self.random, &case.line),
             1 => case.statement = damage::damaged(&mut self.random, &case.statement),
@@ -53,6 +62,19 @@ impl Cases {
             3 if self.random.one_in(3) => case.statement = self.junk(),
             4 => case.room = self.room(&case),
             _ => {}
+        }
+        case
+    }
+
+    /// The foot of the statement, damaged or not, each with any room: 8 is given only where 11 does not apply.
+    fn foot_of(&mut self, statement: Vec<u8>) -> Case {
+        let mut case = Case::foot(match self.random.below(8) {
+            0..=1 => damage::damaged(&mut self.random, &statement),
+            2 => self.junk(),
+            _ => statement,
+        });
+        if self.random.one_in(2) {
+            case.room = self.room(&case);
         }
         case
     }
@@ -76,7 +98,7 @@ impl Cases {
         book.lines_left -= 1;
         let line = line(&mut self.random, &book.mood, &book.holding);
         let statement = statement::write(&book.holding);
-        let case = Case { statement, table: book.table.clone(), line, room: FULL_ROOM };
+        let case = Case::line(statement, book.table.clone(), line);
         match account_line(&case.statement, &case.table, &case.line) {
             Ok(longer) if case.letter() == 'T' => book.table = longer,
             Ok(out) => book.holding = statement::read(statement_part(&case, &out)).expect("what is written is read"),
@@ -90,7 +112,7 @@ impl Cases {
         let holding = holdings::holding(random);
         let mood = mood(random);
         let line = line(random, &mood, &holding);
-        Case { statement: statement::write(&holding), table: tables::table(random), line, room: FULL_ROOM }
+        Case::line(statement::write(&holding), tables::table(random), line)
     }
 
     fn junk(&mut self) -> Vec<u8> {
@@ -105,7 +127,7 @@ impl Cases {
 
     /// Too little, just enough, or a little more.
     fn room(&mut self, case: &Case) -> usize {
-        let need = account_line(&case.statement, &case.table, &case.line).map_or(0, |out| out.len());
+        let need = case.need();
         match self.random.below(4) {
             0 => need.saturating_sub(1),
             1 => need,

@@ -1,6 +1,6 @@
-//! Small statements and lines, each field of them in turn at every value where a rule changes.
+//! Small statements, alone for their foot and with lines, each field in turn at every value where a rule changes.
 
-use crate::case::{Case, FULL_ROOM};
+use crate::case::Case;
 
 const STATEMENTS: [&str; 4] = [
     "H,0\n",
@@ -32,18 +32,16 @@ const VALUES: &str = concat!(
 );
 
 pub fn cases() -> impl Iterator<Item = Case> {
-    STATEMENTS.into_iter().flat_map(|statement| LINES.into_iter().flat_map(move |line| around(statement, line)))
+    let lines =
+        STATEMENTS.into_iter().flat_map(|statement| LINES.into_iter().flat_map(move |line| around(statement, line)));
+    let feet = STATEMENTS.into_iter().flat_map(variants).map(|statement| Case::foot(statement.into_bytes()));
+    lines.chain(feet)
 }
 
 fn around(statement: &'static str, line: &'static str) -> impl Iterator<Item = Case> {
     let statements = variants(statement).map(move |statement| (statement, line.to_string()));
     let lines = variants(line).map(move |line| (statement.to_string(), line));
-    statements.chain(lines).map(|(statement, line)| Case {
-        statement: statement.into_bytes(),
-        table: Vec::new(),
-        line: line.into_bytes(),
-        room: FULL_ROOM,
-    })
+    statements.chain(lines).map(|(statement, line)| Case::line(statement.into_bytes(), Vec::new(), line.into_bytes()))
 }
 
 /// The text with one field replaced by one of the values.

@@ -7,7 +7,29 @@ use carbon_twin::holding::{Area, Holding, Residue, Sub, Trees};
 pub fn holding(random: &mut Random) -> Holding {
     let most = *random.pick(&[0, 1, 1, 2, 3, 16]);
     let numbers = distinct(random, most, 999);
-    Holding { areas: numbers.into_iter().map(|number| area(random, number)).collect() }
+    let history = if most == 16 && random.one_in(2) { filed_every_year } else { filed };
+    Holding { areas: numbers.into_iter().map(|number| area(random, number, history)).collect() }
+}
+
+struct Filed {
+    opening: u64,
+    open_year: u64,
+    returns: u64,
+    received: u64,
+}
+
+fn filed(random: &mut Random) -> Filed {
+    let opening = random.within(2008..=2199);
+    let open_year = if random.one_in(2) { opening } else { random.within(opening..=2200) };
+    let returns = if open_year == opening { 0 } else { random.within(1..=open_year - opening) };
+    let received = random.within(0..=1_000_000_000 * returns);
+    Filed { opening, open_year, returns, received }
+}
+
+/// The units of sixteen such areas add up to the most digits that a foot has.
+fn filed_every_year(random: &mut Random) -> Filed {
+    let received = random.within(96_000_000_000..=192_000_000_000);
+    Filed { opening: 2008, open_year: 2200, returns: 192, received }
 }
 
 fn distinct(random: &mut Random, most: usize, greatest: u64) -> Vec<u64> {
@@ -21,12 +43,9 @@ fn distinct(random: &mut Random, most: usize, greatest: u64) -> Vec<u64> {
     numbers
 }
 
-fn area(random: &mut Random, number: u64) -> Area {
-    let opening = random.within(2008..=2199);
-    let open_year = if random.one_in(2) { opening } else { random.within(opening..=2200) };
-    let returns = if open_year == opening { 0 } else { random.within(1..=open_year - opening) };
+fn area(random: &mut Random, number: u64, history: fn(&mut Random) -> Filed) -> Area {
+    let Filed { opening, open_year, returns, received } = history(random);
     let latest_year = if random.one_in(3) { 0 } else { random.within(2008..=2199) };
-    let received = random.within(0..=1_000_000_000 * returns);
     let withdrawn = random.one_in(6);
     let surrendered = if withdrawn { received } else { random.within(0..=received) };
     let most = *random.pick(&[0, 1, 2, 3, 5, 16]);

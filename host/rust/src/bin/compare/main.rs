@@ -1,4 +1,4 @@
-//! Holds the engine's call against the twin's, on seeded cases.
+//! Holds the engine's calls against the twin's, on seeded cases.
 //!
 //!   compare [--calls N] [--seed N]      the engine against the twin; built with ENGINE_ARCHIVE
 //!   compare --with-itself ..            the twin against itself, which tries only the cases
@@ -12,6 +12,7 @@ mod cases;
 mod damage;
 mod edges;
 mod holdings;
+mod kinds;
 mod lines;
 mod options;
 mod random;
@@ -21,7 +22,7 @@ mod tally;
 #[cfg(test)]
 mod tests;
 
-use carbon_twin::call::{engine_call, twin, Call};
+use carbon_twin::call::{engine_calls, Calls, TWIN};
 use case::{Case, Outcome};
 use cases::Cases;
 use options::Options;
@@ -43,15 +44,15 @@ fn main() -> ExitCode {
             Err(problem) => failed(&problem),
         };
     }
-    let (name, call): (&str, Call) = match (options.with_itself, engine_call()) {
-        (true, _) => ("the twin with itself", twin),
+    let (name, calls) = match (options.with_itself, engine_calls()) {
+        (true, _) => ("the twin with itself", TWIN),
         (false, Some(engine)) => ("the engine with the twin", engine),
         (false, None) => {
             return failed("built without ENGINE_ARCHIVE: there is no engine to compare; see --with-itself")
         }
     };
     let started = Instant::now();
-    match compare(call, twin, options.calls, options.seed) {
+    match compare(calls, TWIN, options.calls, options.seed) {
         Err(problem) => failed(&problem),
         Ok(tally) if options.calls >= ENOUGH_FOR_EVERY_ANSWER && !tally.missing().is_empty() => {
             failed(&format!("{tally}\nnever met: {}", tally.missing().join(", ")))
@@ -75,7 +76,7 @@ fn failed(problem: &str) -> ExitCode {
 
 /// Counts the answers where all are alike; else says where the two part, on the smallest case found. The edges come
 /// first, then so many calls of the seed.
-fn compare(one: Call, other: Call, calls: u64, seed: u64) -> Result<Tally, String> {
+fn compare(one: Calls, other: Calls, calls: u64, seed: u64) -> Result<Tally, String> {
     let mut seeded = Cases::new(seed);
     let seeded = (0..calls).map(|_| seeded.next());
     let mut tally = Tally::default();
@@ -94,7 +95,7 @@ fn differ(one: &Outcome, other: &Outcome) -> bool {
     one != other || one.touches_more()
 }
 
-fn describe(case: &Case, one: Call, other: Call) -> String {
+fn describe(case: &Case, one: Calls, other: Calls) -> String {
     let (first, second) = (case.run(one), case.run(other));
     format!("the answers differ; the smallest case found is\n{case}\n  answers   {first}\n  twin      {second}")
 }

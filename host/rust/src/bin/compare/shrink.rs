@@ -1,7 +1,6 @@
 //! The smallest case found that still fails: parts are taken away, and what is left made plain, as long as it fails.
 
 use crate::case::{Case, FULL_ROOM};
-use carbon_twin::call::account_line;
 use carbon_twin::statement;
 
 pub struct Shrinking<'a> {
@@ -46,7 +45,7 @@ impl Shrinking<'_> {
     fn take(&mut self, smaller: Case) -> bool {
         let mut rooms = vec![smaller.room];
         if smaller.room != FULL_ROOM {
-            let need = account_line(&smaller.statement, &smaller.table, &smaller.line).map_or(0, |out| out.len());
+            let need = smaller.need();
             rooms.extend([need, need.saturating_sub(1), need + 1]);
         }
         for room in rooms {

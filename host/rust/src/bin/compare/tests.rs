@@ -1,8 +1,12 @@
 //! That the comparison finds faults, and shrinks them.
 
 use crate::compare;
+use crate::kinds::Kinds;
 use crate::random::Random;
-use carbon_twin::call::{twin, Call};
+use crate::tally::Tally;
+use carbon_twin::call::{twin, twin_foot, Call, Calls, FootCall, TWIN};
+use carbon_twin::ranges::BOOK_BYTES;
+use carbon_twin::statement;
 
 fn refuses_exact_room(statement: &[u8], table: &[u8], line: &[u8], out: &mut [u8]) -> i64 {
     let answer = twin(statement, table, line, &mut out.to_vec());
@@ -52,13 +56,112 @@ fn every_fault_is_found_and_shrunk() {
         ("numbers", confuses_22_and_23),
         ("balance", loses_the_balance),
     ];
-    for (name, fault) in faults {
-        let Err(said) = compare(fault, twin, 20_000, 7) else {
-            panic!("the fault '{name}' is not found");
-        };
-        let statement = said.lines().find(|line| line.contains("statement \"")).expect("the case is printed");
-        assert!(statement.len() < 80, "the fault '{name}' is not shrunk: {said}");
+    for (name, line) in faults {
+        assert_found_and_shrunk(name, Calls { line, ..TWIN });
     }
+}
+
+fn assert_found_and_shrunk(name: &str, fault: Calls) {
+    let Err(said) = compare(fault, TWIN, 20_000, 7) else {
+        panic!("the fault '{name}' is not found");
+    };
+    let statement = said.lines().find(|line| line.contains("statement \"")).expect("the case is printed");
+    assert!(statement.len() < 80, "the fault '{name}' is not shrunk: {said}");
+}
+
+fn foot_refuses_exact_room(statement: &[u8], out: &mut [u8]) -> i64 {
+    let answer = twin_foot(statement, &mut out.to_vec());
+    if answer == out.len() as i64 {
+        return -8;
+    }
+    twin_foot(statement, out)
+}
+
+fn foot_touches_a_byte_past(statement: &[u8], out: &mut [u8]) -> i64 {
+    let answer = twin_foot(statement, out);
+    if answer > 0 && (answer as usize) < out.len() {
+        out[answer as usize] = 0;
+    }
+    answer
+}
+
+fn foot_touches_on_refusal(statement: &[u8], out: &mut [u8]) -> i64 {
+    let answer = twin_foot(statement, out);
+    if answer == -8 && !out.is_empty() {
+        out[0] = 0;
+    }
+    answer
+}
+
+fn foot_measures_before_it_reads(statement: &[u8], out: &mut [u8]) -> i64 {
+    if out.len() < b"F,0,0,0\n".len() {
+        return -8;
+    }
+    twin_foot(statement, out)
+}
+
+fn foot_passes_withdrawn_areas_over(statement: &[u8], out: &mut [u8]) -> i64 {
+    let Ok(mut holding) = statement::read(statement) else {
+        return -11;
+    };
+    holding.areas.retain(|area| !area.withdrawn);
+    twin_foot(&statement::write(&holding), out)
+}
+
+#[test]
+fn every_fault_of_a_foot_is_found_and_shrunk() {
+    let faults: [(&str, FootCall); 5] = [
+        ("room of a foot", foot_refuses_exact_room),
+        ("past a foot", foot_touches_a_byte_past),
+        ("refusal of a foot", foot_touches_on_refusal),
+        ("8 before 11", foot_measures_before_it_reads),
+        ("withdrawn areas", foot_passes_withdrawn_areas_over),
+    ];
+    for (name, foot) in faults {
+        assert_found_and_shrunk(name, Calls { foot, ..TWIN });
+    }
+}
+
+/// The edges have two areas at most, and no foot of so many digits.
+fn foot_of_44_bytes_is_refused(statement: &[u8], out: &mut [u8]) -> i64 {
+    match twin_foot(statement, out) {
+        44 => -11,
+        answer => answer,
+    }
+}
+
+#[test]
+fn the_longest_foot_is_tried() {
+    assert!(compare(Calls { foot: foot_of_44_bytes_is_refused, ..TWIN }, TWIN, 20_000, 7).is_err());
+}
+
+#[test]
+fn outcomes_that_never_came_are_named() {
+    let nothing = Tally::default().missing();
+    for outcome in ["T", "33", "a foot", "a foot's 8", "a foot's 11"] {
+        assert!(nothing.contains(&outcome.to_string()), "{outcome}");
+    }
+}
+
+#[test]
+fn books_are_told_apart_by_what_their_foot_adds_up() {
+    let received = |area: u64| format!("A,{area},2008\nS,{area},1,1,P1,1998\nR,{area},2010\n");
+    let two = received(1) + &received(2);
+    let books = [
+        "T,G,D,1\n".to_string(),
+        two.clone(),
+        two + "W,2\n",
+        "T,G,D,0,30,20\nA,1,2010\nS,1,1,1,D,2010\nR,1,2010\nR,1,2011\n".to_string(),
+        "\n".repeat(BOOK_BYTES + 1),
+    ];
+    let missing_after: Vec<usize> = (0..=books.len())
+        .map(|count| {
+            let mut kinds = Kinds::default();
+            books[..count].iter().for_each(|book| kinds.count(book.as_bytes()));
+            kinds.missing().len()
+        })
+        .collect();
+    assert_eq!(missing_after, [5, 4, 3, 2, 1, 0]);
 }
 
 /// The seeded cases alone find what the edges never meet.
@@ -74,14 +177,14 @@ fn refuses_sixteen_subs_early(statement: &[u8], table: &[u8], line: &[u8], out: 
 
 #[test]
 fn the_sixteenth_sub_is_tried() {
-    assert!(compare(refuses_sixteen_subs_early, twin, 20_000, 7).is_err());
+    assert!(compare(Calls { line: refuses_sixteen_subs_early, ..TWIN }, TWIN, 20_000, 7).is_err());
 }
 
 #[test]
 fn the_twin_is_like_itself_and_a_seed_repeats() {
-    let said: Vec<String> = (0..2).map(|_| compare(twin, twin, 5_000, 3).expect("alike").to_string()).collect();
+    let said: Vec<String> = (0..2).map(|_| compare(TWIN, TWIN, 5_000, 3).expect("alike").to_string()).collect();
     assert_eq!(said[0], said[1]);
-    assert_ne!(said[0], compare(twin, twin, 5_000, 4).expect("alike").to_string());
+    assert_ne!(said[0], compare(TWIN, TWIN, 5_000, 4).expect("alike").to_string());
 }
 
 #[test]

@@ -1,0 +1,3 @@
+pub mod Foot
+pub use Foot.{unitsText, footBy, mostForFoot}
+unfoldable pub use Foot.{allCarried, summable, footOf}

@@ -1,0 +1,2 @@
+pub mod Foot
+unfoldable pub use Foot.{footBytes, footWeighed, footAnswer, footOutput}

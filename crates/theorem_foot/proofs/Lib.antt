@@ -1,0 +1,10 @@
+pub mod PrintedLines
+pub mod Reported
+pub mod Shown
+pub mod Cases
+pub mod Sums
+pub mod Totals
+pub mod Balances
+pub mod Above
+pub mod Sheet
+pub mod Examples
