@@ -1,43 +1,27 @@
 -- The areas of a holding whose fields a statement carries have few units, so that their totals fit; and every area surrendered at most what it received.
-use Rattle.laws.proofs.{ℕ, zero, suc, _*_, _≤_, _<_, max, _≡_, refl, sym, ap, _∙_, Bool, true, false, List, [], _∷_, arith, leb-true, le-leb, lt-leb, length, getD, length-take, getD-take}
+use Rattle.laws.proofs.{ℕ, _*_, _≤_, _<_, max, _≡_, sym, ap, _∙_, Bool, true, false, arith, leb-true, le-leb, lt-leb, length, getD, length-take, getD-take}
 use Rattle.laws.specs.{every, sumBy, allOf}
-use Rattle.laws.proofs.Lists.{and-left, and-right}
 use Rattle.laws.proofs.Tests.{AllTrue, all-true, true-all}
 use Rattle.holding.specs.{Area, Holding, mostAreas, areasOf}
-use Rattle.holding_look.specs.{balanceOf, overAll, unitsReceived, unitsSurrendered}
+use Rattle.holding_look.specs.{balanceOf, unitsReceived, unitsSurrendered}
 use Rattle.statement_carried.specs.{fieldsCarried, areaCarried, carried}
-use Rattle.statement_carried.proofs.Bounds.{bounds, mostUnits, units-few}
+use Rattle.statement_carried.proofs.Bounds.{area-fields, bounds, mostUnits, units-few}
+use Rattle.theorem_keeping.specs.{Each}
+use Rattle.theorem_keeping.proofs.Lists.{each-at, sum-at-most, each-so, every-each, each-every}
 use Rattle.book_foot.specs.{allCarried}
 
--- ---- lists of which every element passes a test
-
-module _ {A : Type 0} (test : A → Bool) where
-  every-at : (l : List A) (i : ℕ) (d : A) → every test l ≡ true → i < length l → test (getD l i d) ≡ true
-  unfolding every
-  every-at [] i d e h = absurd (omega arith)
-  every-at (a ∷ l) zero d e h = and-left (test a) (every test l) e
-  every-at (a ∷ l) (suc i) d e h = every-at l i d (and-right (test a) (every test l) e) (omega arith)
-
-  every-so : (other : A → Bool) → ((a : A) → test a ≡ true → other a ≡ true) → (l : List A) → every test l ≡ true → every other l ≡ true
-  unfolding every
-  every-so other so [] e = refl
-  every-so other so (a ∷ l) e = rw (so a (and-left (test a) (every test l) e)) (every-so other so l (and-right (test a) (every test l) e))
-
-  sum-few : (f : A → ℕ) (most : ℕ) → ((a : A) → test a ≡ true → f a ≤ most) → (l : List A) → every test l ≡ true → sumBy f l ≤ most * length l
-  unfolding every sumBy
-  sum-few f most few [] e = omega arith
-  sum-few f most few (a ∷ l) e =
-      let first = few a (and-left (test a) (every test l) e) in
-      let rest = sum-few f most few l (and-right (test a) (every test l) e) in
-      omega arith
+-- over all areas that stand
+abbrev pub overAll : (Area → ℕ) → Holding → ℕ
+overAll units holding = sumBy units (areasOf holding)
 
 -- ---- a holding that a statement carries, and the bound of a total
 
 pub carried-footed : (holding : Holding) → carried holding ≡ true → allCarried holding ≡ true
-unfolding carried areaCarried allCarried AllTrue
+unfolding carried allCarried AllTrue
 carried-footed holding e =
     let t = all-true _ e in
-    true-all _ (t .0, (every-so areaCarried fieldsCarried (λ area c. all-true _ c .0) (areasOf holding) (t .1 .0), tt))
+    let each = each-so _ _ area-fields (areasOf holding) (every-each areaCarried (areasOf holding) (t .1 .0)) in
+    true-all _ (t .0, (each-every fieldsCarried (areasOf holding) each, tt))
 
 -- a total is at most what all areas can have
 abbrev pub mostTotal : ℕ
@@ -59,23 +43,22 @@ module _ (holding : Holding) where
     unfolding allCarried AllTrue
     few-stand = leb-true _ _ (all-true _ e .0)
 
-    pub each-carried : every fieldsCarried (areasOf holding) ≡ true
+    each-carried : Each (λ (area : Area). fieldsCarried area ≡ true) (areasOf holding)
     unfolding allCarried AllTrue
-    each-carried = all-true _ e .1 .0
+    each-carried = every-each fieldsCarried (areasOf holding) (all-true _ e .1 .0)
 
     pub paid-at : (i : ℕ) (d : Area) → i < holding .count → i < length (holding .areas) → getD (holding .areas) i d .surrendered ≤ getD (holding .areas) i d .received
     paid-at i d h k =
-        let here = every-at fieldsCarried (areasOf holding) i d each-carried (omega (arith, length-take (holding .count) (holding .areas))) in
+        let here = each-at _ (areasOf holding) i d (omega (arith, length-take (holding .count) (holding .areas))) each-carried in
         bounds _ (ap fieldsCarried (sym (getD-take (holding .count) (holding .areas) i d h)) ∙ here) .surrendered
 
     few-areas : length (areasOf holding) ≤ mostAreas
     few-areas = omega (arith, length-take (holding .count) (holding .areas), few-stand)
 
     total-few : (units : Area → ℕ) → ((area : Area) → units area ≤ max (area .received) (area .surrendered)) → overAll units holding ≤ mostTotal
-    unfolding overAll
     total-few units within =
-        let few = sum-few fieldsCarried units mostUnits (λ area c. omega (arith, within area, units-few area c)) (areasOf holding) each-carried in
-        omega (arith, few-areas)
+        let each = each-so _ (λ (area : Area). units area ≤ mostUnits) (λ area c. omega (arith, within area, units-few area c)) (areasOf holding) each-carried in
+        omega (arith, few-areas, sum-at-most units mostUnits (areasOf holding) each)
 
     pub received-few : overAll unitsReceived holding ≤ mostTotal
     received-few = total-few unitsReceived (λ area. omega arith)

@@ -1,5 +1,5 @@
 -- "The call returns the bytes written, or a refusal's number with a minus sign."
-use Rattle.laws.specs.{ℕ, ℤ, pos, negℤ}
+use Rattle.laws.specs.{ℤ, pos, negℤ}
 use Prim.Native.Nat.{_<_, _^_}
 use Rattle.refusals.specs.{numberOf, Written}
 

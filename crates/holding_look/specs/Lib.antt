@@ -4,5 +4,4 @@ pub use declared.Looked.{Looked}
 pub use declared.Units.{Units}
 pub use Standing.{known, lookedAt, lookedUp, balanceOf, subsWith}
 unfoldable pub use Standing.{areaAt, subAt, withSub}
-unfoldable pub use Totals.{overAll}
-pub use Totals.{unitsReceived, unitsSurrendered, unitsOf, unitsIn}
+pub use Totals.{unitsReceived, unitsSurrendered, unitsIn, unitsOf}

@@ -4,18 +4,14 @@ use Rattle.holding.specs.{Area, Holding, areasOf}
 use Rattle.holding_look.specs.Standing.{balanceOf}
 use Rattle.holding_look.specs.declared.Units.{Units}
 
-unfoldable pub overAll : (Area → ℕ) → Holding → ℕ
-overAll units holding = sumBy units (areasOf holding)
-
 abbrev pub unitsReceived : Area → ℕ
 unitsReceived area = area .received
 
 abbrev pub unitsSurrendered : Area → ℕ
 unitsSurrendered area = area .surrendered
 
-abbrev pub unitsOf : Holding → Units
-unitsOf holding = record { received = overAll unitsReceived holding; surrendered = overAll unitsSurrendered holding; balance = overAll balanceOf holding }
-
--- the same of areas that stand in a list
 abbrev pub unitsIn : List Area → Units
 unitsIn areas = record { received = sumBy unitsReceived areas; surrendered = sumBy unitsSurrendered areas; balance = sumBy balanceOf areas }
+
+abbrev pub unitsOf : Holding → Units
+unitsOf holding = unitsIn (areasOf holding)

@@ -4,7 +4,7 @@ use Rattle.laws.proofs.Tests.{AllTrue, all-true}
 use Rattle.laws.proofs.Lists.{and-left}
 use Rattle.ranges.specs.{firstYear, lastYear}
 use Rattle.holding.specs.{Area, mostSubs}
-use Rattle.statement_carried.specs.{stockForSub, receivedForReturn, yearsCarried, amountsCarried, fieldsCarried}
+use Rattle.statement_carried.specs.{stockForSub, receivedForReturn, yearsCarried, amountsCarried, fieldsCarried, areaCarried}
 
 pub record Bounds (area : Area) : Type 0 where
   pub count : area .count ≤ mostSubs
@@ -13,6 +13,11 @@ pub record Bounds (area : Area) : Type 0 where
   pub stock : area .stock .0 ≤ stockForSub * area .count
   pub received : area .received ≤ receivedForReturn * area .returns
   pub surrendered : area .surrendered ≤ area .received
+
+-- an area that is carried whole has such fields
+pub area-fields : (area : Area) → areaCarried area ≡ true → fieldsCarried area ≡ true
+unfolding areaCarried AllTrue
+area-fields area e = all-true _ e .0
 
 pub bounds : (area : Area) → fieldsCarried area ≡ true → Bounds area
 unfolding fieldsCarried yearsCarried amountsCarried AllTrue

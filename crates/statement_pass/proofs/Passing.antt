@@ -6,7 +6,7 @@ use Rattle.laws.proofs.Turns.{and-assoc}
 use Rattle.laws.proofs.Lists.{and-left, and-right}
 use Rattle.refusals.specs.{Refusal, Verdict}
 use Rattle.holding.specs.{Area, Holding, Found, mostAreas, areasOf, emptyArea, emptyHolding, placeFrom, findArea}
-use Rattle.holding_look.specs.{Units, areaAt, lookedUp, overAll, unitsOf, unitsIn}
+use Rattle.holding_look.specs.{Units, areaAt, lookedUp, unitsOf, unitsIn}
 use Rattle.statement_carried.specs.{areaCarried, carried}
 use Rattle.laws.proofs.Distinct.{distinct-borne}
 use Rattle.statement_cursor.specs.{NumberField}
@@ -113,7 +113,6 @@ module _ (s : List ℕ) (number : ℕ) where
 
     -- the units are those of the holding that is read
     units-are : passed .kept ≡ true → passed .units ≡ unitsOf read
-    unfolding overAll
     units-are kept = p .units kept ∙ ap unitsIn (sym (areas-read s))
 
     is-read : accepts s (holdingAt s) ≡ true → record { verdict = Verdict.Accepted; holding = read } ≡ readOf s
@@ -150,7 +149,7 @@ module _ (s : List ℕ) (number : ℕ) where
           to = length s;
           units = noUnits;
         } ≡ passedOver s number
-    unfolding passedOver findArea placeFrom areaAt startOf endOf overAll sumBy
+    unfolding passedOver findArea placeFrom areaAt startOf endOf sumBy
     passed-turned e none n =
         ap (λ (a : Area). record {
           verdict = Verdict.Refused Refusal.CarriedStatement;

@@ -5,19 +5,17 @@ use Rattle.laws.specs.{every, sumBy}
 use lib.Seq.{take-suc-set}
 use Rattle.laws.proofs.Lists.{and-left, and-right}
 use Rattle.laws.proofs.Turns.{and-none, and-assoc}
-use Rattle.laws.proofs.Tests.{AllTrue, all-true}
 use Rattle.holding.specs.{Area, Found, mostAreas}
 use Rattle.holding_look.specs.{known}
 use Rattle.statement_carried.specs.{fieldsCarried, areaCarried}
-use Rattle.statement_carried.proofs.Bounds.{mostUnits, units-few}
+use Rattle.statement_carried.proofs.Bounds.{area-fields, mostUnits, units-few}
 use Rattle.statement_parse.specs.{AreaRead, areaLineAt}
 use Rattle.statement_places.specs.{itemsRead, placeAfter, areaIn, afterArea}
 use Rattle.statement_pass.specs.{Sought, notThere, soughtFrom}
 
 -- an area that counts has fields that a statement carries
 pub counted-fields : (kept carried : Bool) (area : Area) → carried ≡ areaCarried area → (kept && carried) ≡ true → fieldsCarried area ≡ true
-unfolding areaCarried AllTrue
-counted-fields kept carried area e t = all-true _ (sym e ∙ and-right kept carried t) .0
+counted-fields kept carried area e t = area-fields area (sym e ∙ and-right kept carried t)
 
 abbrev pub numbersOf : List Area → List ℕ
 numbersOf = map (λ (area : Area). area .number)

@@ -5,7 +5,8 @@ use Rattle.laws.specs.{sumBy}
 use Rattle.laws.proofs.Order.{below-or-not}
 use Rattle.ranges.specs.{lastArea}
 use Rattle.holding.specs.{Area, Holding, areasOf}
-use Rattle.holding_look.specs.{balanceOf, overAll, unitsReceived, unitsSurrendered}
+use Rattle.holding_look.specs.{balanceOf, unitsReceived, unitsSurrendered}
+use Rattle.book_foot.proofs.Carried.{overAll}
 use Rattle.theorem_keeping.specs.{Each, Kept}
 use Rattle.theorem_keeping.proofs.Within.{within}
 use Rattle.theorem_keeping.proofs.Lists.{each-so}
@@ -69,11 +70,9 @@ areas-paid (area ∷ areas) each = omega (arith, each .0 .fields .amounts .owned
 
 module _ (holding : Holding) (kept : Kept holding) where
   pub balances-summed : sumTo lastArea (λ n. balanceFor n holding) ≡ overAll balanceOf holding
-  unfolding overAll
   balances-summed =
       to-borne areaNumber balanceOf lastArea (areasOf holding)
       (each-so _ _ (λ area a. within 1 (area .number) lastArea (a .fields .number)) (areasOf holding) (kept-areas holding kept .each))
 
   pub units-paid : overAll unitsReceived holding ≡ overAll unitsSurrendered holding + overAll balanceOf holding
-  unfolding overAll
   units-paid = areas-paid (areasOf holding) (kept-areas holding kept .each)

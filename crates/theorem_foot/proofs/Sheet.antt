@@ -7,12 +7,13 @@ use Rattle.laws.specs.{sumBy}
 use Rattle.laws.proofs.Signed.{ℤ-same, one-side, diff-read}
 use Rattle.ranges.specs.{lastArea}
 use Rattle.holding.specs.{Holding, emptyHolding}
-use Rattle.holding_look.specs.{balanceOf, overAll, unitsReceived, unitsSurrendered}
+use Rattle.holding_look.specs.{balanceOf, unitsReceived, unitsSurrendered}
 use Rattle.book_print.specs.{footText, endText}
 use Rattle.book_listing.specs.{linesOf, Run, start, runFrom, printedFrom, listFrom}
 use Rattle.book_listing.proofs.Folding.{listing-over, listing-lines}
 use Rattle.book_room.proofs.Feet.{kept-foot}
 use Rattle.book_room.proofs.Runs.{start-kept, run-kept}
+use Rattle.book_foot.proofs.Carried.{overAll}
 use Rattle.theorem_keeping.specs.{Kept}
 use Rattle.theorem_foot.specs.{lastBalance, sumTo, AddsUp, Footed}
 use Rattle.theorem_foot.proofs.Totals.{balanceFor, Shows, lines-show}
@@ -22,7 +23,7 @@ use Rattle.theorem_foot.proofs.Above.{lines-above}
 -- the balances of what was reached from no area on
 module _ (holding : Holding) (sheet : List (List ℕ)) (shows : Shows emptyHolding holding sheet) where
   last-balance : (n : ℕ) → balanceFor n holding ≡ lastBalance sheet n
-  unfolding overAll sumBy lastBalance
+  unfolding sumBy lastBalance
   last-balance n = shows .balance n
 
   last-balances : Kept holding → overAll balanceOf holding ≡ sumTo lastArea (lastBalance sheet)
@@ -49,7 +50,7 @@ module _ (lines : List (List ℕ)) where
       ap (λ (l : List ℕ). above ++ (l ++ endText (last .accepted) (last .refused))) (sym (kept-foot (last .holding) (run-kept lines start start-kept .holding)))
 
   list-adds-up : AddsUp (listFrom start lines)
-  unfolding overAll sumBy start
+  unfolding sumBy start
   list-adds-up =
       let shows = lines-show lines start start-kept in
       let kept = run-kept lines start start-kept .holding in

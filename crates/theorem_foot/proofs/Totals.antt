@@ -8,10 +8,11 @@ use Rattle.refusals.specs.{Verdict}
 use Rattle.line_entry.specs.{Parsed}
 use Rattle.line.specs.{entryOf}
 use Rattle.holding.specs.{Area, Holding, areasOf, emptyArea, openedArea}
-use Rattle.holding_look.specs.{balanceOf, overAll, unitsReceived, unitsSurrendered}
+use Rattle.holding_look.specs.{balanceOf, unitsReceived, unitsSurrendered}
 use Rattle.step_outcome.specs.{Report, Outcome, placed}
 use Rattle.book_listing.specs.{linesOf, lineTaken, Run, next, printedFor, printed, runFrom, printedFrom}
 use Rattle.book_room.proofs.Runs.{RunKept, next-kept}
+use Rattle.book_foot.proofs.Carried.{overAll}
 use Rattle.theorem_keeping.specs.{Kept}
 use Rattle.theorem_keeping.proofs.Areas.{areaNumber, kept-areas}
 use Rattle.theorem_foot.specs.{receivedShown, dueShown, balanceAfter}
@@ -33,7 +34,7 @@ record Told (before after : Holding) (report : Report) : Type 0 where
 
 module _ (before after : Holding) where
   opened-told : (read : Parsed) (report : Report) → Opens before read after report → Told before after report
-  unfolding overAll receivedIn dueIn balanceOfIn
+  unfolding receivedIn dueIn balanceOfIn
   opened-told read report opens = rw (opens .quiet) (record {
     received = more unitsReceived ∙ (omega arith);
     surrendered = more unitsSurrendered ∙ (omega arith);
@@ -52,7 +53,6 @@ module _ (before after : Holding) where
     was = getD (areasOf before) (moves .place) emptyArea
 
     put : (f : Area → ℕ) → overAll f after + f was ≡ overAll f before + f (moves .area)
-    unfolding overAll
     put f = ap (λ (l : List Area). sumBy f l + f was) (moves .standing) ∙ sum-put f (areasOf before) (moves .place) (moves .area) emptyArea (moves .inside)
 
     put-borne : (n : ℕ) (t : Bool) → eqb (was .number) n ≡ t
@@ -63,7 +63,6 @@ module _ (before after : Holding) where
 
     -- no other area bears its number
     own-balance : balanceFor (was .number) after ≡ balanceOfIn (was .number) report (balanceFor (was .number) before)
-    unfolding overAll
     own-balance =
         let n = was .number in
         let one : balanceFor n before ≡ balanceOf was = borne-once areaNumber balanceOf (areasOf before) (moves .place) emptyArea apart (moves .inside) in

@@ -1,7 +1,8 @@
--- A property of each element, read at a place and kept by a store or by one element more; the test `every` is such a property; and `distinct`,
--- which looks at numbers alone, is kept where they stay.
-use Rattle.laws.proofs.{ℕ, zero, suc, _<_, Bool, true, _||_, _≡_, refl, sym, ap, _∙_, List, [], _∷_, _++_, map, arith, eqb, length, getD, set}
-use Rattle.laws.specs.{some, every, distinct}
+-- A property of each element, read at a place and kept by a store or by one element more; the test `every` is such a property, and a bound of each
+-- bounds the sum; and `distinct`, which looks at numbers alone, is kept where they stay.
+use Rattle.laws.proofs.{ℕ, zero, suc, _*_, _≤_, _<_, Bool, true, _||_, _≡_, refl, sym, ap, _∙_, List, [], _∷_, _++_, map, arith, eqb, length, getD, set}
+use native.Mathlib.Nat.{mul-suc}
+use Rattle.laws.specs.{some, every, distinct, sumBy}
 use Rattle.laws.proofs.Lists.{and-left, and-right, both}
 use Rattle.theorem_keeping.specs.{Each}
 
@@ -22,6 +23,11 @@ module _ {A : Type 0} (P : A → Type 0) where
   unfolding Each
   each-more [] a q p = (q, tt)
   each-more (x ∷ l) a q p = (p .0, each-more l a q (p .1))
+
+pub sum-at-most : {A : Type 0} (f : A → ℕ) (m : ℕ) (l : List A) → Each (λ a. f a ≤ m) l → sumBy f l ≤ m * length l
+unfolding sumBy Each
+sum-at-most f m [] p = omega arith
+sum-at-most f m (a ∷ l) p = let h : f a ≤ m = p .0 in omega (arith, mul-suc m (length l), sum-at-most f m l (p .1))
 
 pub each-both : {A : Type 0} (P Q R : A → Type 0) → ((a : A) → P a → Q a → R a) → (l : List A) → Each P l → Each Q l → Each R l
 unfolding Each

@@ -1,8 +1,8 @@
 -- The bounds of stocks and changes. A rate is at most 30,000 and a share at most 10, so a sub-area of at most 100,000 tenths has trees of at most
 -- 3×10^10 kg and residue of at most that; sixteen have at most 96×10^10 kg, and between two such stocks lie at most 960,000,000 tonnes.
-use Rattle.laws.proofs.{ℕ, _+_, _-_, _*_, _≤_, Bool, true, false, cond, _≡_, refl, List, [], _∷_, arith, leb, ltb, length, length-take}
-use native.Mathlib.Nat.{mul-le-mul, mul-suc}
-use Rattle.laws.specs.{sumBy, eachAtMost}
+use Rattle.laws.proofs.{ℕ, _+_, _-_, _*_, _≤_, Bool, true, false, cond, _≡_, refl, List, arith, leb, ltb, length, length-take}
+use native.Mathlib.Nat.{mul-le-mul}
+use Rattle.laws.specs.{eachAtMost}
 use Rattle.laws.proofs.Lists.{ceiling-at}
 use Rattle.units.specs.{Kilograms, noKilograms, Change, treesOf, residueOf, tonnes, changeBetween}
 use Rattle.ranges.specs.{mostLand}
@@ -17,7 +17,7 @@ use Rattle.stocks.specs.{treesOn, oneResidueOn, residueOn, subStock, areaStock}
 use Rattle.stocks.proofs.Residues.{residue-alone}
 use Rattle.theorem_keeping.specs.{Each}
 use Rattle.theorem_keeping.proofs.Within.{land-within}
-use Rattle.theorem_keeping.proofs.Lists.{each-so}
+use Rattle.theorem_keeping.proofs.Lists.{sum-at-most, each-so}
 use Rattle.theorem_keeping.proofs.Areas.{AreaKept}
 
 -- a product of three numbers, each with its bound
@@ -27,11 +27,6 @@ product-at-most a b c l m n p q r = mul-le-mul (mul-le-mul p q) r
 share-at-most : (years : ℕ) → shareAfter years ≤ 10
 unfolding shareAfter eachAtMost
 share-at-most years = ceiling-at 10 shares refl years
-
-sum-at-most : {A : Type 0} (f : A → ℕ) (m : ℕ) (l : List A) → Each (λ a. f a ≤ m) l → sumBy f l ≤ m * length l
-unfolding sumBy Each
-sum-at-most f m [] p = omega arith
-sum-at-most f m (a ∷ l) p = let h : f a ≤ m = p .0 in omega (arith, mul-suc m (length l), sum-at-most f m l (p .1))
 
 -- none is within every bound
 unless : (t : Bool) (stock : Kilograms) (m : ℕ) → stock .0 ≤ m → cond t noKilograms stock .0 ≤ m

@@ -11,7 +11,7 @@ use Rattle.line.specs.{bodyOf, letterOf, noRule, ruleOf, lineRule, conditions, 
 use Rattle.table.specs.{isTable}
 use Rattle.table_bytes.specs.{numbersOf, decodable}
 use Rattle.holding.specs.{placeFrom, findArea}
-use Rattle.holding_look.specs.{areaAt, overAll}
+use Rattle.holding_look.specs.{areaAt}
 use Rattle.stocks.specs.{areaStock}
 use Rattle.statement_carried.specs.{yearsCarried, amountsCarried, fieldsCarried, areaCarried, carried}
 use Rattle.step_outcome.specs.{answered, placed, areaCases}
@@ -79,6 +79,6 @@ pub record Examples : Type 0 where
   pub short-output : sentFrom (begin [] (room 30)) lines ≡ []
 
 pub examples-hold : Examples
-unfolding some every distinct keep sumBy allOf bufferAfter weighed weighAll smallest tonnes changeBetween digitsIn digits widthTo holds extend split append more headed numberIn letterIn parsed areaAndYear openRule fileRule withdrawRule bodyOf letterOf noRule ruleOf lineRule conditions entryOf isTable numbersOf decodable placeFrom findArea areaAt areaStock yearsCarried amountsCarried fieldsCarried areaCarried carried answered placed areaCases openCases opened fileCases changeOf filedArea returnOf filed withdrawCases withdrawn applied startText numberText joined texts yearsText amountsText areaText statementOf fieldOf fieldBy numberBefore numberAt startAt lineAt itemsFrom subsFrom subsAt yearsAt amountsAt areaLineAt areasFrom areasAt holdingAt acceptable readOf changeText reportText pairText refusalText footText endText overAll allCarried summable footOf linesOf entryTaken parsedTaken lineTaken tableAfter start next printedFor printed runFrom printedFrom listFrom listingOf tableVerdict callVerdict entryBytes callBytes withRoom callWeighed callAnswer callOutput begin isColumnLine beforeReport afterCall shownAfter sentFrom reportsFrom linesRun actsFrom reportsIn
+unfolding some every distinct keep sumBy allOf bufferAfter weighed weighAll smallest tonnes changeBetween digitsIn digits widthTo holds extend split append more headed numberIn letterIn parsed areaAndYear openRule fileRule withdrawRule bodyOf letterOf noRule ruleOf lineRule conditions entryOf isTable numbersOf decodable placeFrom findArea areaAt areaStock yearsCarried amountsCarried fieldsCarried areaCarried carried answered placed areaCases openCases opened fileCases changeOf filedArea returnOf filed withdrawCases withdrawn applied startText numberText joined texts yearsText amountsText areaText statementOf fieldOf fieldBy numberBefore numberAt startAt lineAt itemsFrom subsFrom subsAt yearsAt amountsAt areaLineAt areasFrom areasAt holdingAt acceptable readOf changeText reportText pairText refusalText footText endText allCarried summable footOf linesOf entryTaken parsedTaken lineTaken tableAfter start next printedFor printed runFrom printedFrom listFrom listingOf tableVerdict callVerdict entryBytes callBytes withRoom callWeighed callAnswer callOutput begin isColumnLine beforeReport afterCall shownAfter sentFrom reportsFrom linesRun actsFrom reportsIn
 examples-hold =
     record { listing-reports = refl; book-acts = refl; book-reports = refl; calls-sent = refl; calls-reports = refl; short-output = refl }

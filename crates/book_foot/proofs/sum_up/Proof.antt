@@ -6,8 +6,8 @@ use Rattle.laws.specs.{sumBy}
 use Rattle.laws.proofs.Standing.{as-long}
 use Rattle.laws.proofs.Turns.{sum-end, sum-more}
 use Rattle.holding.specs.{Area, mostAreas}
-use Rattle.holding_look.specs.{balanceOf, overAll, unitsReceived, unitsSurrendered}
-use Rattle.book_foot.proofs.Carried.{few-stand, paid-at, mostTotal, received-few, surrendered-few, balance-few}
+use Rattle.holding_look.specs.{balanceOf, unitsReceived, unitsSurrendered}
+use Rattle.book_foot.proofs.Carried.{overAll, few-stand, paid-at, mostTotal, received-few, surrendered-few, balance-few}
 use Rattle.book_foot.proofs.sum_up.Tie as tie
 
 abbrev Inv-loop : tie.InvT-loop
@@ -24,7 +24,6 @@ all-places : (c : tie.Start Inv-loop μ-loop) → length (c .args .t1 .areas) �
 all-places c = search (needs, as-long)
 
 loop-holds : tie.Need-loop-holds Inv-loop μ-loop
-unfolding overAll
 loop-holds c = (omega arith, omega arith, omega arith)
 
 -- the place is inside the array
