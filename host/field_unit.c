@@ -1,13 +1,15 @@
 /* A recorder's program: keeps an owner's statement and table in two files, and takes the lines of standard input.
  *
  *   field_unit STATEMENT TABLE < lines
+ *   field_unit --sheet FILE STATEMENT TABLE
  *   field_unit --foot STATEMENT
  *
- * A file that is not there yet is the empty holding, or no table. For each line it prints the line's number and what
- * came of it, once that is kept: what was answered outlasts a loss of power. With --foot it prints the foot of the
- * statement alone: units received, units surrendered and balance over all areas. Ends with 0 where every line was taken
- * or the foot was printed, 1 where a line or the statement was refused, 2 where a file could not be read or kept, or no
- * answer given.
+ * A statement or table that is not there yet is the empty holding, or no table. For each line it prints the line's number
+ * and what came of it, once that is kept: what was answered outlasts a loss of power. With --sheet it takes the
+ * sub-areas of a sheet of comma-separated values, all of them or none, and answers once. With --foot it prints the foot
+ * of the statement alone: units received, units surrendered and balance over all areas. Ends with 0 where every line or
+ * the sheet was taken or the foot was printed, 1 where a line, the sheet or the statement was refused, 2 where a file
+ * could not be read or kept, or no answer given.
  */
 #define _POSIX_C_SOURCE 200809L
 #include "carbon_account.h"
@@ -104,6 +106,8 @@ static const char *in_words(int64_t refusal)
     case CARBON_YEAR_TOO_EARLY: return "the year is filed already, or is before the latest clearing or planting";
     case CARBON_PLANTED_AFTER: return "the trees are planted after the area opened";
     case CARBON_TABLE_AFTER_AREA: return "the table is closed once an area stands";
+    case CARBON_SHEET_FORM: return "the sheet's quotes or row ends are broken";
+    case CARBON_SHEET_ROW: return "the sheet has another heading, or a row without five fields";
     default: return "an unknown refusal";
     }
 }
@@ -166,6 +170,58 @@ static int take_lines(const char *statement_path, const char *table_path)
     return all_taken;
 }
 
+struct sheet {
+    uint8_t *bytes;
+    size_t length;
+};
+
+static void read_on(struct sheet *sheet, FILE *file, const char *path)
+{
+    size_t room = 0;
+    do {
+        room = 2 * room + 65536;
+        sheet->bytes = realloc(sheet->bytes, room);
+        if (sheet->bytes == NULL)
+            fail(path, "is too long");
+        sheet->length += fread(sheet->bytes + sheet->length, 1, room - sheet->length, file);
+    } while (sheet->length == room);
+}
+
+/* The whole file, whatever its length. */
+static struct sheet read_sheet(const char *path)
+{
+    struct sheet sheet = {NULL, 0};
+    FILE *file = fopen(path, "rb");
+    if (file == NULL)
+        fail(path, strerror(errno));
+    read_on(&sheet, file, path);
+    if (ferror(file))
+        fail(path, "cannot be read");
+    fclose(file);
+    return sheet;
+}
+
+/* Whether the sheet was taken. */
+static int take_sheet(const char *sheet_path, const char *statement_path, const char *table_path)
+{
+    static struct kept statement, table;
+    load(&statement, statement_path, empty_holding);
+    load(&table, table_path, "");
+    struct sheet sheet = read_sheet(sheet_path);
+    uint8_t out[CARBON_STATEMENT_BYTES];
+    int64_t answer = carbon_import_sheet(statement.bytes, statement.length, table.bytes, table.length,
+                                         sheet.bytes, sheet.length, out, sizeof out);
+    free(sheet.bytes);
+    if (answer < 0) {
+        printf("%s: refused (%" PRId64 "): %s\n", sheet_path, -answer, in_words(-answer));
+    } else {
+        save(&statement, out, (size_t)answer);
+        printf("%s: taken\n", sheet_path);
+    }
+    flush_answer();
+    return answer > 0;
+}
+
 /* Whether the statement has a foot. */
 static int print_foot(const char *statement_path)
 {
@@ -182,13 +238,23 @@ static int print_foot(const char *statement_path)
     return 1;
 }
 
+static int usage(void)
+{
+    fprintf(stderr, "usage: field_unit STATEMENT TABLE < lines, field_unit --sheet FILE STATEMENT TABLE, "
+                    "or field_unit --foot STATEMENT\n");
+    return 2;
+}
+
 int main(int count, char **words)
 {
-    if (count != 3) {
-        fprintf(stderr, "usage: field_unit STATEMENT TABLE < lines, or field_unit --foot STATEMENT\n");
-        return 2;
-    }
-    int foot_alone = strcmp(words[1], "--foot") == 0;
-    int taken = foot_alone ? print_foot(words[2]) : take_lines(words[1], words[2]);
+    int taken;
+    if (count == 5 && strcmp(words[1], "--sheet") == 0)
+        taken = take_sheet(words[2], words[3], words[4]);
+    else if (count == 3 && strcmp(words[1], "--foot") == 0)
+        taken = print_foot(words[2]);
+    else if (count == 3)
+        taken = take_lines(words[1], words[2]);
+    else
+        return usage();
     return taken ? 0 : 1;
 }

@@ -11,7 +11,7 @@ struct bytes {
     size_t length;
 };
 
-/* What a call answered, and what stands in the output. */
+/* What a call answered, and what stands in the output until the next call. */
 struct answer {
     int64_t value;
     const uint8_t *out;
@@ -19,8 +19,10 @@ struct answer {
 
 struct bytes text(const char *characters);
 
-/* Both end the test program where the call touched bytes that are not its own: past the result, or any on a refusal. */
+/* Each ends the test program where the call touched bytes that are not its own: past the result, or any on a refusal. */
 struct answer guarded_call(struct bytes statement, struct bytes table, struct bytes line, size_t room);
 struct answer guarded_foot(struct bytes statement, size_t room);
+struct answer guarded_import(struct bytes statement, struct bytes table, struct bytes sheet, size_t room);
+struct answer guarded_export(struct bytes book, size_t room);
 
 #endif

@@ -1,8 +1,10 @@
 /* How much one call costs. A HOLDING is empty, small (1x4), full (16x16), or so many areas of so many sub-areas each: 4x16.
- *   measure HOLDING LINE TIMES   makes the holding, then makes the call that many times; callgrind counts from outside
- *   measure HOLDING foot TIMES   the same with the call of the foot
- *   measure length HOLDING       prints the length of its statement
- *   measure stack AREAS          prints the deepest stack of calls on so many areas of sixteen sub-areas
+ *   measure HOLDING LINE TIMES            makes the holding, then makes the call that many times; callgrind counts from outside
+ *   measure HOLDING foot TIMES            the same with the call of the foot
+ *   measure HOLDING import:HOLDING TIMES  the same with a sheet that has the sub-areas of the second holding as its rows
+ *   measure HOLDING export:HOLDING TIMES  the same with a book that has the lines of the second; the first plays no part
+ *   measure length HOLDING                prints the length of its statement
+ *   measure stack AREAS                   prints the deepest stack of calls on so many areas of sixteen sub-areas
  */
 #define _GNU_SOURCE
 #include <pthread.h>
@@ -16,24 +18,26 @@
 
 enum { STACK_BYTES = 1 << 20, PAINT = 0xA5, MOST_AREAS = 16, MOST_SUBS = 16 };
 
+static const char empty_holding[] = "H,0\n";
 static uint8_t statement[CARBON_OUT_BYTES] = "H,0\n";
 static size_t statement_len = 4;
-static uint8_t out[CARBON_OUT_BYTES];
+/* The line, the sheet or the book. */
+static char given[CARBON_BOOK_BYTES];
+static size_t given_len;
+static uint8_t out[CARBON_EXPORT_BYTES];
+
+/* A call on what is held and given, into so much room. */
+typedef int64_t (*call_into)(size_t room);
 
 static int usage(void)
 {
-    fprintf(stderr, "measure HOLDING LINE|foot TIMES, measure length HOLDING, or measure stack AREAS\n");
+    fprintf(stderr, "measure HOLDING LINE|foot|import:HOLDING|export:HOLDING TIMES, measure length HOLDING, or measure stack AREAS\n");
     return 2;
 }
 
-static int64_t call_into(const char *line, size_t room)
+static int64_t line_into(size_t room)
 {
-    return carbon_account_line(statement, statement_len, statement, 0, (const uint8_t *)line, strlen(line), out, room);
-}
-
-static int64_t call(const char *line)
-{
-    return call_into(line, sizeof out);
+    return carbon_account_line(statement, statement_len, statement, 0, (const uint8_t *)given, given_len, out, room);
 }
 
 static int64_t foot_into(size_t room)
@@ -41,10 +45,37 @@ static int64_t foot_into(size_t room)
     return carbon_foot(statement, statement_len, out, room);
 }
 
-static void want(const char *line, bool wanted, int64_t answer)
+static int64_t import_into(size_t room)
+{
+    return carbon_import_sheet(statement, statement_len, statement, 0, (const uint8_t *)given, given_len, out, room);
+}
+
+static int64_t export_into(size_t room)
+{
+    return carbon_export_sheet((const uint8_t *)given, given_len, out, room);
+}
+
+/* Where the room is less than CARBON_OUT_BYTES, the call of a line measures before it writes. */
+static size_t full_room(call_into call)
+{
+    return call == export_into ? CARBON_EXPORT_BYTES : CARBON_OUT_BYTES;
+}
+
+static void give(const char *text)
+{
+    given_len += (size_t)snprintf(given + given_len, sizeof given - given_len, "%s", text);
+}
+
+static void give_line(const char *line)
+{
+    given_len = 0;
+    give(line);
+}
+
+static void want(const char *what, bool wanted, int64_t answer)
 {
     if (!wanted) {
-        fprintf(stderr, "%s: %lld\n", line, (long long)answer);
+        fprintf(stderr, "%s: %lld\n", what, (long long)answer);
         exit(1);
     }
 }
@@ -60,73 +91,105 @@ static size_t statement_part(size_t written)
 
 static void take(const char *line)
 {
-    int64_t written = call(line);
+    give_line(line);
+    int64_t written = line_into(CARBON_OUT_BYTES);
     want(line, written > 0, written);
     statement_len = statement_part((size_t)written);
     memcpy(statement, out, statement_len);
 }
 
-/* Where the room is less than CARBON_OUT_BYTES, the call measures before it writes: the line is refused where a byte is
- * missing, and taken where none is. */
-static void call_measured(const char *line)
+/* It is refused where a byte of room is missing, and taken where none is. */
+static void call_measured(call_into call, const char *what)
 {
-    int64_t written = call(line);
-    want(line, written > 0, written);
-    int64_t refused = call_into(line, (size_t)written - 1);
-    want(line, refused == -CARBON_ROOM, refused);
-    int64_t taken = call_into(line, (size_t)written);
-    want(line, taken == written, taken);
-}
-
-static void foot_measured(void)
-{
-    int64_t written = foot_into(CARBON_FOOT_BYTES);
-    want("foot", written > 0, written);
-    int64_t refused = foot_into((size_t)written - 1);
-    want("foot", refused == -CARBON_ROOM, refused);
+    int64_t written = call(full_room(call));
+    want(what, written > 0, written);
+    int64_t refused = call((size_t)written - 1);
+    want(what, refused == -CARBON_ROOM, refused);
+    int64_t taken = call((size_t)written);
+    want(what, taken == written, taken);
 }
 
 static void take_measured(const char *line)
 {
-    call_measured(line);
+    give_line(line);
+    call_measured(line_into, line);
     take(line);
 }
 
+/* The lines of a holding, each entered. */
 static void make_holding(int areas, int subs, void (*enter)(const char *line))
 {
     char line[64];
     for (int area = 1; area <= areas; area++) {
-        snprintf(line, sizeof line, "A,%d,2008", area);
+        snprintf(line, sizeof line, "A,%d,2008\n", area);
         enter(line);
         for (int sub = 1; sub <= subs; sub++) {
-            snprintf(line, sizeof line, "S,%d,%d,1234.5678,P1,1990", area, sub);
+            snprintf(line, sizeof line, "S,%d,%d,1234.5678,P1,1990\n", area, sub);
             enter(line);
         }
     }
 }
 
+/* Of an S line, its row. */
+static void give_row(const char *line)
+{
+    if (line[0] != 'S')
+        return;
+    give(line + strlen("S,"));
+    given_len--;
+    give("\r\n");
+}
+
+static void give_sheet(int areas, int subs)
+{
+    give_line("area,sub,hectares,type,planted\r\n");
+    make_holding(areas, subs, give_row);
+}
+
+static void give_book(int areas, int subs)
+{
+    give_line("");
+    make_holding(areas, subs, give);
+}
+
+static bool counts_of(const char *name, int *areas, int *subs)
+{
+    char behind;
+    *areas = *subs = 0;
+    if (strcmp(name, "small") == 0)
+        *areas = 1, *subs = 4;
+    else if (strcmp(name, "full") == 0)
+        *areas = MOST_AREAS, *subs = MOST_SUBS;
+    else
+        return strcmp(name, "empty") == 0 || sscanf(name, "%dx%d%c", areas, subs, &behind) == 2;
+    return true;
+}
+
 static bool make_named(const char *name)
 {
-    int areas = 0, subs = 0;
-    char behind;
-    if (strcmp(name, "small") == 0)
-        areas = 1, subs = 4;
-    else if (strcmp(name, "full") == 0)
-        areas = MOST_AREAS, subs = MOST_SUBS;
-    else if (strcmp(name, "empty") != 0 && sscanf(name, "%dx%d%c", &areas, &subs, &behind) != 2)
+    int areas, subs;
+    if (!counts_of(name, &areas, &subs))
         return false;
     make_holding(areas, subs, take);
     return true;
 }
 
-/* T on the empty holding, A and S to fill it, the foot, and each other letter on its last area. */
+/* Sheets and books, then from the empty holding T, A and S to fill it, the foot, and each other letter on its last area. */
 static void *deepest(void *areas)
 {
     static const char *const lines[] = {"C,%d,%d,2012", "P,%d,%d,D,2012", "R,%d,2014", "W,%d"};
     int last = *(const int *)areas;
-    call_measured("T,G,P,1");
+    make_holding(last, 0, take_measured);
+    give_sheet(last, MOST_SUBS);
+    call_measured(import_into, "import");
+    give_book(last, MOST_SUBS);
+    call_measured(export_into, "export");
+    statement_len = strlen(empty_holding);
+    memcpy(statement, empty_holding, statement_len);
+    give_line("T,G,P,1");
+    call_measured(line_into, "T");
     make_holding(last, MOST_SUBS, take_measured);
-    foot_measured();
+    call_measured(foot_into, "foot");
     for (size_t i = 0; i < sizeof lines / sizeof *lines; i++) {
         char line[64];
         snprintf(line, sizeof line, lines[i], last, MOST_SUBS);
@@ -174,14 +237,33 @@ static int measure_length(const char *holding)
     return 0;
 }
 
-static int make_calls(const char *holding, const char *line, int times)
+/* The call that is asked, with what it is given; none where the words are not known. */
+static call_into asked(const char *what)
+{
+    int areas, subs;
+    if (strcmp(what, "foot") == 0)
+        return foot_into;
+    if (strncmp(what, "import:", 7) != 0 && strncmp(what, "export:", 7) != 0) {
+        give_line(what);
+        return line_into;
+    }
+    if (!counts_of(what + 7, &areas, &subs))
+        return NULL;
+    bool import = what[0] == 'i';
+    (import ? give_sheet : give_book)(areas, subs);
+    return import ? import_into : export_into;
+}
+
+static int make_calls(const char *holding, const char *what, int times)
 {
     if (!make_named(holding))
         return usage();
-    bool foot = strcmp(line, "foot") == 0;
+    call_into call = asked(what);
+    if (call == NULL)
+        return usage();
     while (times-- > 0) {
-        int64_t answer = foot ? foot_into(sizeof out) : call(line);
-        want(line, answer > 0, answer);
+        int64_t answer = call(full_room(call));
+        want(what, answer > 0, answer);
     }
     return 0;
 }

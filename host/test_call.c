@@ -1,8 +1,9 @@
 /* The calls against documents 01 and 02: the printed case line by line with the foot after each, every refusal that a
- * call can give, and the room of the output. Damaged input is tried by test_damage.c. */
+ * call can give, and the room of the output. Sheets are tried by test_sheet.c, damaged input by test_damage.c. */
 #include "carbon_account.h"
 #include "guarded.h"
 #include "test_damage.h"
+#include "test_sheet.h"
 
 #include <stdbool.h>
 #include <stdio.h>
@@ -224,6 +225,7 @@ int main(void)
     test_room();
     test_feet();
     test_long_lines();
+    test_sheets();
     test_damage();
     if (failures > 0) {
         printf("the calls: %d do not hold\n", failures);

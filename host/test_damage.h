@@ -6,7 +6,7 @@
 /* Counts and prints what does not hold. */
 void expect(bool holds, const char *what);
 
-/* Every byte of a small statement, table and line in every value; cut short at every place; longer by a byte. */
+/* Every byte of a small statement, table, line, sheet and book in every value; cut short at every place; longer by a byte. */
 void test_damage(void);
 
 #endif

@@ -2,7 +2,8 @@
 
   python3 host/test_killed.py FIELD_UNIT KILL_AT
 
-The files must be those after the lines that were answered, or after one line more, and a next sitting must go on from there.
+The files must be those after the lines that were answered, or after one line more, and a next sitting must go on from there;
+of a sheet, those before all its rows or after them.
 A kill leaves what was written, and a loss of power only what was synced. So the order of calls is held too: the bytes
 written and synced, then the rename, then the folder synced, and then the answer.
 """
@@ -49,9 +50,10 @@ class Unit:
     def kept(self):
         return {name: content for name, content in self.files().items() if name in NAMES}
 
-    def sit(self, lines, stop=None, inside=True):
+    def sit(self, lines, stop=None, inside=True, before=()):
         """A sitting with these lines, killed at a stop if one is given: its status, answers and calls."""
         words = [self.program] if stop is None else [self.killer, str(stop), self.program]
+        words += before
         words += NAMES if inside else [f"{self.folder.name}/{name}" for name in NAMES]
         ended = subprocess.run(
             words, cwd=self.folder if inside else self.folder.parent, input=b"".join(lines), capture_output=True
@@ -115,12 +117,51 @@ class Case:
         return next(stop for stop in itertools.count(1) if not self.check_killed(stop)) - 1
 
 
-def many_sub_areas():
-    """Sixteen areas of sixteen sub-areas: a statement of more bytes than one call writes."""
-    for area in range(1, 17):
-        yield f"A,{area},2008\n".encode()
-        for sub in range(1, 17):
-            yield f"S,{area},{sub},{10 + sub}.{area % 10},P{1 + sub % 9},{1960 + sub}\n".encode()
+class Sheet:
+    """A sheet, and the files before and after it."""
+
+    def __init__(self, unit, first, rows):
+        self.unit, self.path = unit, unit.folder.parent / "sheet.csv"
+        self.path.write_bytes(b"area,sub,hectares,type,planted\r\n" + b"".join(row + b"\r\n" for row in rows))
+        unit.put({})
+        unit.sit(first)
+        self.before = unit.kept()
+        self.answers = self.sit()[1]
+        self.after = unit.kept()
+
+    def sit(self, stop=None):
+        return self.unit.sit([], stop, before=["--sheet", self.path])
+
+    def check_calls(self):
+        self.unit.put(self.before)
+        calls = once(self.sit(0)[2])
+        kept = ["write statement.new", "fsync statement.new", "rename", f"fsync {self.unit.folder.name}"]
+        expect(calls == kept + ["write standard output"], f"the calls of a sheet are {calls}")
+
+    def check_killed(self, stop):
+        """Whether there was such a stop."""
+        self.unit.put(self.before)
+        status, answers, _ = self.sit(stop)
+        kept = self.unit.kept()
+        whole = kept == self.after or (not answers and kept == self.before)
+        expect(whole, f"a sheet killed at stop {stop}, with the answers {answers}: {kept} is kept")
+        return status == KILLED
+
+    def check(self):
+        """The number of stops that it was killed at."""
+        expect(self.answers == [b"taken\n"] and self.after != self.before, f"the sheet is {self.answers}")
+        self.check_calls()
+        return next(stop for stop in itertools.count(1) if not self.check_killed(stop)) - 1
+
+
+def sixteen_areas():
+    return [f"A,{area},2008\n".encode() for area in range(1, 17)]
+
+
+def sixteen_sub_areas_each():
+    """With them, a statement of more bytes than one call writes."""
+    places = itertools.product(range(1, 17), range(1, 17))
+    return [f"{area},{sub},{10 + sub}.{area % 10},P{1 + sub % 9},{1960 + sub}".encode() for area, sub in places]
 
 
 def main(program, killer):
@@ -129,7 +170,10 @@ def main(program, killer):
         folder.mkdir()
         unit = Unit(str(pathlib.Path(program).resolve()), str(pathlib.Path(killer).resolve()), folder)
         stops = Case(unit, [], PRINTED_CASE.read_bytes().splitlines(keepends=True)).check()
-        stops += Case(unit, many_sub_areas(), [b"R,7,2010\n", b"W,16\n"]).check()
+        rows = sixteen_sub_areas_each()
+        lines = [b"S," + row + b"\n" for row in rows]
+        stops += Case(unit, sixteen_areas() + lines, [b"R,7,2010\n", b"W,16\n"]).check()
+        stops += Sheet(unit, sixteen_areas(), rows).check()
     print(f"the field unit was killed at {stops} stops and kept what it had answered")
 
 

@@ -36,30 +36,19 @@ module _ (book : List ℕ) (i end most : ℕ) (h : i < length book) (m : 0 < mos
   some : suc (most - 1) ≡ most
   some = omega arith
 
-  taken : take (end - i) (drop i book) ∷ take (most - 1) (linesOf (drop (end + 1) book)) ≡ take most (linesOf (drop i book))
-  taken = ap (λ (n : ℕ). take n (take (end - i) (drop i book) ∷ linesOf (drop (end + 1) book))) some ∙ ap (take most) (sym first)
+  pub lines-taken : take (end - i) (drop i book) ∷ take (most - 1) (linesOf (drop (end + 1) book)) ≡ take most (linesOf (drop i book))
+  lines-taken = ap (λ (n : ℕ). take n (take (end - i) (drop i book) ∷ linesOf (drop (end + 1) book))) some ∙ ap (take most) (sym first)
 
   pub left-line : drop (most - 1) (linesOf (drop (end + 1) book)) ≡ drop most (linesOf (drop i book))
   left-line = ap (λ (n : ℕ). drop n (take (end - i) (drop i book) ∷ linesOf (drop (end + 1) book))) some ∙ ap (drop most) (sym first)
 
   module _ (run after : Run) (q : after ≡ next run (take (end - i) (drop i book))) where
-    pub from-line : printed run (take (end - i) (drop i book)) ++ printedFrom after (take (most - 1) (linesOf (drop (end + 1) book)))
-        ≡ printedFrom run (take most (linesOf (drop i book)))
-    unfolding printedFrom
-    from-line =
-        ap (λ (r : Run). printed run (take (end - i) (drop i book)) ++ printedFrom r (take (most - 1) (linesOf (drop (end + 1) book)))) q
-        ∙ ap (printedFrom run) taken
-
     pub run-line : runFrom after (take (most - 1) (linesOf (drop (end + 1) book))) ≡ runFrom run (take most (linesOf (drop i book)))
     unfolding runFrom
-    run-line = ap (λ (r : Run). runFrom r (take (most - 1) (linesOf (drop (end + 1) book)))) q ∙ ap (runFrom run) taken
+    run-line = ap (λ (r : Run). runFrom r (take (most - 1) (linesOf (drop (end + 1) book)))) q ∙ ap (runFrom run) lines-taken
 
 -- where no line is left
 module _ (run : Run) (lines : List (List ℕ)) (h : lines ≡ []) where
-  pub from-none : [] ≡ printedFrom run lines
-  unfolding printedFrom
-  from-none = sym (ap (printedFrom run) h)
-
   pub run-none : run ≡ runFrom run lines
   unfolding runFrom
   run-none = sym (ap (runFrom run) h)

@@ -1,9 +1,10 @@
 -- The lines from a place on are the first of them, which ends where byte 10 is found, and those behind it.
-use Rattle.laws.proofs.{ℕ, suc, _+_, _-_, _≤_, _<_, _≡_, refl, sym, ap, _∙_, Bool, true, false, cond, List, [], _∷_, ⊎-elim, arith, eqb, length, take, drop, drop-of-length-le}
+use Rattle.laws.proofs.{ℕ, suc, _+_, _-_, _≤_, _<_, _≡_, refl, sym, ap, _∙_, Bool, true, false, cond, List, [], _∷_, ⊎-elim, arith, eqb, length, take, drop, drop-of-length-le, le-ltb}
+use Rattle.laws.specs.{sumBy}
 use Rattle.laws.proofs.Order.{below-or-not}
 use Rattle.text.specs.{lineEnd, widthTo, extend}
 use Rattle.text.proofs.Widths.{part-ended, part-last}
-use Rattle.book_listing.specs.{linesOf}
+use Rattle.book_listing.specs.{linesOf, longestBook, linesRun}
 
 pub lines-none : (s : List ℕ) (i : ℕ) → length s ≤ i → linesOf (drop i s) ≡ []
 unfolding linesOf
@@ -31,3 +32,23 @@ lines-few (b ∷ bs) = go (eqb b 10) (linesOf bs) (lines-few bs)
     go true lines h = omega arith
     go false [] h = omega arith
     go false (f ∷ fs) h = omega arith
+
+-- a line's bytes and its end
+abbrev pub weight : List ℕ → ℕ
+weight line = length line + 1
+
+-- a book has as many bytes as its lines and their ends, but that the last may lack its end
+pub lines-weigh : (book : List ℕ) → sumBy weight (linesOf book) ≤ length book + 1
+unfolding linesOf extend sumBy
+lines-weigh [] = omega arith
+lines-weigh (b ∷ bs) = go (eqb b 10) (linesOf bs) (lines-weigh bs)
+  where
+    go : (x : Bool) (lines : List (List ℕ)) → sumBy weight lines ≤ length bs + 1 → sumBy weight (cond x ([] ∷ lines) (extend b lines)) ≤ suc (length bs) + 1
+    go true lines h = omega arith
+    go false [] h = omega arith
+    go false (f ∷ fs) h = omega arith
+
+-- every line of a book that is not too long is run
+pub lines-run : (book : List ℕ) → length book ≤ longestBook → linesRun book ≡ linesOf book
+unfolding linesRun
+lines-run book h = simp (le-ltb _ _ h)

@@ -96,6 +96,10 @@ listFrom run lines = printedFrom run lines ++ closing (runFrom run lines)
 abbrev pub longestBook : ℕ
 longestBook = 65536
 
+-- the lines of a book that are run: none of one that is longer
+unfoldable pub linesRun : List ℕ → List (List ℕ)
+linesRun book = cond (ltb longestBook (length book)) [] (linesOf book)
+
 -- "For a book over 65536 bytes `book` prints X,0,1 and E,0,1 alone."
 abbrev pub refusedBook : List ℕ
 refusedBook = refusalText 0 Refusal.Form ++ endText 0 1

@@ -1,16 +1,17 @@
 -- A part: what so many lines print, and behind the last line the foot and E; and all lines at once.
-use Rattle.laws.proofs.{ℕ, _+_, _*_, _≤_, _<_, _≡_, refl, sym, ap, _∙_, true, false, List, [], _++_, append-nil, length-append, arith, length, take, drop, take-all}
+use Rattle.laws.proofs.{ℕ, _+_, _*_, _≤_, _<_, _≡_, refl, sym, ap, _∙_, true, false, List, [], _++_, append-nil, length-append, arith, length, take, drop}
 use lib.Seq.{length-take-le}
 use Rattle.text.specs.{Wrote}
 use Rattle.text.proofs.Writes.{wrote-next, wrote-is, wrote-length, wrote-as, wrote-then}
 use Rattle.statement_field.specs.{Put}
 use Rattle.book_print.specs.{reportWidth}
-use Rattle.book_listing.specs.{linesOf, Run, start, runFrom, printedFrom, closing, listFrom, longestBook, refusedBook, listingOf}
-use Rattle.book_listing.proofs.Lines.{lines-at, lines-none, lines-few}
+use Rattle.book_listing.specs.{linesOf, Run, runFrom, printedFrom, closing, listFrom, longestBook, refusedBook, listingOf}
+use Rattle.book_listing.proofs.Lines.{lines-at, lines-none}
 use Rattle.book_listing.proofs.Folding.{listing-lines}
 use Rattle.book_reached.specs.{Reached, runOf, nothingReached, mayRunFrom}
-use Rattle.book_reached.proofs.Bounds.{may}
-use Rattle.book_run.specs.{Part, linesFrom, RunOf}
+use Rattle.book_reached.proofs.Bounds.{begun}
+use Rattle.book_run.specs.{Part, Print, linesFrom, RunOf}
+use Rattle.book_run.proofs.Runs.{all-lines}
 use Rattle.book_parts.specs.{partLines, closingAt, closingWidth, partFrom, partOf, ComesTo, Whole}
 
 -- ---- a part put
@@ -37,7 +38,7 @@ module _ (book : List ℕ) (next : ℕ) (reached : Reached) where
   lines = linesFrom book next
 
   -- a book that may run
-  module _ (h : mayRunFrom book next reached ≡ true) {out after : List ℕ} {part : Part} (ran : RunOf book next reached partLines out after part) (room : partLines * reportWidth + closingWidth ≤ length out) where
+  module _ (h : mayRunFrom book next reached ≡ true) {out after : List ℕ} {part : Part} (ran : RunOf Print.Listing book next reached partLines out 0 after part) (room : partLines * reportWidth + closingWidth ≤ length out) where
     abbrev listed : List ℕ
     listed = printedFrom run (take partLines lines)
 
@@ -57,14 +58,14 @@ module _ (book : List ℕ) (next : ℕ) (reached : Reached) where
     part-more inside =
         let ended = part-is [] (closed-not _ book (part .next) _ (ran .left) inside) in
         whole (wrote-as (sym (append-nil listed) ∙ ended) (ran .wrote))
-        (omega (arith, ap length (sym (append-nil listed) ∙ ended), ran .wrote .place, ran .short))
+        (omega (arith, ap length (sym (append-nil listed) ∙ ended), ran .wrote .place, ran .short refl))
 
     pub part-last : length book ≤ part .next → {last : List ℕ} {count : ℕ} → Put closingWidth after (part .count) (closing (runOf (part .reached))) last count
         → Whole (partOf book next reached) out last count
     part-last over {last} {count} end =
         let ended = part-is (closing (runOf (part .reached))) (closed _ book (part .next) _ (ran .left) over ∙ ap (λ (r : Run). closing r) (sym (ran .run))) in
         whole (wrote-as ended (wrote-then (ran .wrote) (end .wrote)))
-        (omega (arith, ap length ended, length-append listed (closing (runOf (part .reached))), ran .wrote .place, ran .short, end .few))
+        (omega (arith, ap length ended, length-append listed (closing (runOf (part .reached))), ran .wrote .place, ran .short refl, end .few))
 
   -- one that may not
   module _ (h : mayRunFrom book next reached ≡ false) where
@@ -86,22 +87,12 @@ module _ (book : List ℕ) (next : ℕ) (reached : Reached) where
 
 -- ---- all lines at once
 
-pub begun : runOf nothingReached ≡ start
-unfolding start
-begun = refl
-
 module _ (book : List ℕ) (short : length book ≤ longestBook) where
-  pub may-begin : mayRunFrom book 0 nothingReached ≡ true
-  may-begin = may _ _ _ _ _ (record { book = short; place = omega arith; table = omega arith; some = omega arith; others = omega arith })
-
-  all-lines : take longestBook (linesFrom book 0) ≡ linesOf book
-  all-lines = take-all longestBook (linesOf book) (omega (arith, lines-few book))
-
   pub listing-whole : (last : Run) → last ≡ runFrom (runOf nothingReached) (take longestBook (linesFrom book 0))
       → printedFrom (runOf nothingReached) (take longestBook (linesFrom book 0)) ++ closing last ≡ listingOf book
   unfolding listFrom
   listing-whole last e =
       ap (λ (r : Run). printedFrom (runOf nothingReached) (take longestBook (linesFrom book 0)) ++ closing r) e
-      ∙ ap (λ (l : List (List ℕ)). listFrom (runOf nothingReached) l) all-lines
+      ∙ ap (λ (l : List (List ℕ)). listFrom (runOf nothingReached) l) (all-lines book short)
       ∙ ap (λ (r : Run). listFrom r (linesOf book)) begun
       ∙ listing-lines book short

@@ -9,6 +9,7 @@ ghost use Rattle.book_parts.specs.{closingWidth, partOf, Whole, ComesTo}
 use book_listing::LONGEST_BOOK;
 use book_reached::Reached;
 use book_run::Part;
+use book_run::Print;
 use refusals::Refusal;
 
 // How many lines a part lists at most, and room for what they print, for the foot and for E.
@@ -47,7 +48,7 @@ pub fn put_part(book: &[u8], next: usize, reached: Reached, out: &mut [u8; PART_
         reached.accepted,
         reached.refused,
     ) {
-        let part = book_run::put_lines(book, next, reached, PART_LINES, out);
+        let part = book_run::put_lines(Print::Listing, book, next, reached, PART_LINES, out, 0);
         if part.next < book.len() {
             return part;
         }
@@ -74,7 +75,8 @@ pub fn put_listing(book: &[u8], out: &mut [u8]) -> usize
     if LONGEST_BOOK < book.len() {
         return put_refused(out);
     }
-    let all = book_run::put_lines(book, 0, book_reached::nothing_reached(), LONGEST_BOOK, out);
+    let nothing = book_reached::nothing_reached();
+    let all = book_run::put_lines(Print::Listing, book, 0, nothing, LONGEST_BOOK, out, 0);
     let last = all.reached;
     put_closing(out, all.count, last)
 }

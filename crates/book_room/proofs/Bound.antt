@@ -1,9 +1,8 @@
 -- A listing has at most 11 bytes for each byte of its book and one more, 44 for the foot and 14 for E: a line prints at most 11 bytes for each of its own and its end,
 -- since a refusal takes no more than 11 and the lines that print more are as much longer themselves.
-use Rattle.laws.proofs.{ℕ, suc, _+_, _*_, _≤_, _<_, Bool, true, false, cond, ap, List, [], _∷_, ⊎-elim, arith, eqb, length, length-append}
+use Rattle.laws.proofs.{ℕ, _+_, _*_, _≤_, _<_, ap, List, [], _∷_, ⊎-elim, arith, length, length-append}
 use Rattle.laws.specs.{sumBy}
 use Rattle.laws.proofs.Order.{below-or-not}
-use Rattle.text.specs.{extend}
 use Rattle.refusals.specs.{Verdict, Refusal}
 use Rattle.step_outcome.specs.{Outcome}
 use Rattle.book_print.specs.{reportText, refusalText, endText}
@@ -11,14 +10,10 @@ use Rattle.book_print.proofs.Lengths.{refusal-few, end-few}
 use Rattle.book_foot.specs.{footOf, mostForFoot}
 use Rattle.book_listing.specs.{linesOf, lineTaken, Run, start, next, printedFor, printed, listFrom, longestBook, refusedBook, listingOf}
 use Rattle.book_listing.proofs.Folding.{start-none, next-counts, list-line, list-none, listing-over, listing-lines}
-use Rattle.book_listing.proofs.Lines.{lines-few}
+use Rattle.book_listing.proofs.Lines.{lines-few, weight, lines-weigh}
 use Rattle.book_room.specs.{mostForByte, mostForEnd, roomForAny}
 use Rattle.book_room.proofs.Feet.{kept-foot-few}
 use Rattle.book_room.proofs.Runs.{line-length, RunKept, start-kept, next-kept}
-
--- a line's bytes and its end
-abbrev weight : List ℕ → ℕ
-weight line = length line + 1
 
 printed-for : (number m : ℕ) (v : Verdict) (outcome : Outcome) → number < 100000 → mostForByte ≤ m → length (reportText (outcome .report)) ≤ m
     → length (printedFor number v outcome) ≤ m
@@ -48,17 +43,6 @@ from-length run (line ∷ lines) k h =
     let first = printed-length run line k (omega arith) in
     let rest = from-length (next run line) lines (next-kept run line k) (omega arith) in
     omega (arith, ap length (list-line run line lines), length-append (printed run line) (listFrom (next run line) lines))
-
--- a book has as many bytes as its lines and their ends, but that the last may lack its end
-lines-weigh : (book : List ℕ) → sumBy weight (linesOf book) ≤ length book + 1
-unfolding linesOf extend sumBy
-lines-weigh [] = omega arith
-lines-weigh (b ∷ bs) = go (eqb b 10) (linesOf bs) (lines-weigh bs)
-  where
-    go : (x : Bool) (lines : List (List ℕ)) → sumBy weight lines ≤ length bs + 1 → sumBy weight (cond x ([] ∷ lines) (extend b lines)) ≤ suc (length bs) + 1
-    go true lines h = omega arith
-    go false [] h = omega arith
-    go false (f ∷ fs) h = omega arith
 
 pub listing-length : (book : List ℕ) → length book ≤ longestBook → length (listingOf book) ≤ mostForByte * (length book + 1) + mostForFoot + mostForEnd
 listing-length book h =

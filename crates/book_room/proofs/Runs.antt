@@ -42,6 +42,10 @@ module _ (own : List ℕ) (table : isTable own ≡ true) (holding : Holding) (ke
   parsed-keeps (Parsed.Taken entry) = entry-keeps entry
   parsed-keeps (Parsed.Refused r) = kept
 
+  pub line-keeps : Kept (placed holding (lineTaken own holding line))
+  unfolding lineTaken
+  line-keeps = parsed-keeps (entryOf line)
+
   -- the table after a line whose verdict it is
   table-or : (v : Verdict) (new : List ℕ) → (v ≡ Verdict.Accepted → isTable new ≡ true) → isTable (ifAccepted v new own) ≡ true
   table-or Verdict.Accepted new f = f refl

@@ -1,27 +1,19 @@
 -- A turn of the loop is a turn of the fold: the code's table, holding and counts after a line are those of the run that follows.
-use Rattle.laws.proofs.{ℕ, _+_, _-_, _≡_, refl, ap, _∙_, List, arith, length, take, length-set}
+use Rattle.laws.proofs.{ℕ, _+_, _-_, _≡_, refl, ap, _∙_, List, arith, take}
 use Rattle.refusals.specs.{Verdict}
 use Rattle.schedules.specs.{schedule6}
 use Rattle.line_entry.specs.{Parsed}
 use Rattle.line.specs.{entryOf}
 use Rattle.holding.specs.{Area, Holding, Found, numbersIn}
-use Rattle.holding_look.specs.{Looked, areaAt, lookedAt}
-use Rattle.holding_look.proofs.Laws.{looked-as}
-use Rattle.step_outcome.specs.{Outcome, placedAt, placed}
-use Rattle.book_listing.specs.{parsedTaken, lineTaken, parsedTable, ifAccepted, tableAfter, Run, next, printedFor, printed}
+use Rattle.holding_look.specs.{Looked, areaAt}
+use Rattle.step_outcome.specs.{Outcome, placed}
+use Rattle.book_listing.specs.{parsedTaken, lineTaken, parsedTable, ifAccepted, tableAfter, Run, next}
 use Rattle.book_find.specs.{Named, namedBy}
+use Rattle.book_find.proofs.Naming.{lookedFor, looked-for}
 use Rattle.book_column.specs.{Fronts}
-use Rattle.book_run.specs.{parsedOutcome}
+use Rattle.book_run.specs.{parsedOutcome, Print, putFor}
+use Rattle.book_run.proofs.Printing.{putIn}
 use Rattle.book_run.proofs.Turns.{turn-taken}
-
--- a step leaves as many places for areas as there were
-pub placed-long : (holding : Holding) (outcome : Outcome) → length (placed holding outcome .areas) ≡ length (holding .areas)
-unfolding placed
-placed-long holding outcome = go (outcome .place)
-  where
-    go : (found : Found) → length (placedAt holding found (outcome .count) (outcome .area) .areas) ≡ length (holding .areas)
-    go (Found.At i) = length-set (holding .areas) i (outcome .area)
-    go Found.Nowhere = refl
 
 one-or-none : (v : Verdict) (a r : ℕ) → (a + ifAccepted v 1 0 ≡ ifAccepted v (a + 1) a) × (r + (1 - ifAccepted v 1 0) ≡ ifAccepted v r (r + 1))
 one-or-none Verdict.Accepted a r = omega arith
@@ -32,22 +24,19 @@ module _ (run : Run) (areaNumbers : List ℕ) (i : areaNumbers ≡ numbersIn (ru
     (t : outcome ≡ parsedOutcome (run .own) default (record { number = names .number; count = run .holding .count; found = found; area = area }) line parsed)
     (p : parsed ≡ entryOf line) (n : names ≡ namedBy (take (run .holding .count) areaNumbers) parsed) (f : found ≡ names .found) (a : area ≡ areaAt (run .holding) found)
     (d : default ≡ schedule6) where
-  abbrev lookedAs : Named → Looked
-  lookedAs x = lookedAt (run .holding) (x .number) (x .found)
-
   outcome-is : outcome ≡ lineTaken (run .own) (run .holding) line
   unfolding lineTaken
   outcome-is =
       t
-      ∙ ap (λ (x : Looked). parsedOutcome (run .own) default x line parsed) (looked-as (run .holding) (names .number) found (names .found) area f a)
-      ∙ ap (λ (x : Named). parsedOutcome (run .own) default (lookedAs x) line parsed) n
-      ∙ ap (λ (l : List ℕ). parsedOutcome (run .own) l (lookedAs (namedBy (take (run .holding .count) areaNumbers) parsed)) line parsed) d
+      ∙ ap (λ (x : Looked). parsedOutcome (run .own) default x line parsed) (looked-for (run .holding) areaNumbers parsed names found area n f a)
+      ∙ ap (λ (l : List ℕ). parsedOutcome (run .own) l (lookedFor (run .holding) areaNumbers parsed) line parsed) d
       ∙ turn-taken (run .own) (run .holding) areaNumbers i line parsed
       ∙ ap (parsedTaken (run .own) (run .holding) line) p
 
-  pub turn-prints : printedFor (run .accepted + run .refused + 1) (outcome .verdict) outcome ≡ printed run line
-  unfolding printed
-  turn-prints = ap (λ (x : Outcome). printedFor (run .accepted + run .refused + 1) (x .verdict) x) outcome-is
+  pub turn-puts : (print : Print) → putFor print (run .accepted + run .refused + 1) line parsed outcome ≡ putIn print run line
+  turn-puts print =
+      ap (putFor print (run .accepted + run .refused + 1) line parsed) outcome-is
+      ∙ ap (λ (x : Parsed). putFor print (run .accepted + run .refused + 1) line x (lineTaken (run .own) (run .holding) line)) p
 
   pub turn-runs : (numbers : List ℕ) (count : ℕ) → Fronts numbers count (ifAccepted (outcome .verdict) (parsedTable (run .own) line parsed) (run .own))
       → (holding : Holding) (accepted refused taken : ℕ)

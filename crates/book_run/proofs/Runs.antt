@@ -2,9 +2,10 @@
 use Rattle.laws.proofs.{ℕ, _≤_, _<_, _≡_, sym, ap, subst, _∙_, Bool, true, false, _&&_, List, [], _⊎_, inl, inr, ⊎-elim, arith, ltb, ltb-true, ltb-false, lt-ltb, length, take, drop, take-all, drop-of-length-le}
 use Rattle.laws.proofs.Lists.{and-left, and-right}
 use Rattle.laws.proofs.Order.{below-or-not}
-use Rattle.book_listing.proofs.Lines.{lines-none}
+use Rattle.book_listing.specs.{linesOf, longestBook}
+use Rattle.book_listing.proofs.Lines.{lines-none, lines-few}
 use Rattle.book_reached.specs.{Reached, mayRunFrom}
-use Rattle.book_run.specs.{Part, linesFrom, RunOf, RunsIf}
+use Rattle.book_run.specs.{Part, Print, linesFrom, RunOf, RunsIf}
 
 -- ---- the loop's two tests
 
@@ -36,18 +37,22 @@ module _ (book : List ℕ) (i left : ℕ) where
       over
       (below-or-not i (length book))
 
+-- no book that may run has more lines than it may have bytes
+pub all-lines : (book : List ℕ) → length book ≤ longestBook → take longestBook (linesFrom book 0) ≡ linesOf book
+all-lines book short = take-all longestBook (linesOf book) (omega (arith, lines-few book))
+
 -- ---- by whether the book can have come so far
 
-module _ (book : List ℕ) (next : ℕ) (reached : Reached) (most : ℕ) (out after : List ℕ) (part : Part) where
+module _ (print : Print) (book : List ℕ) (next : ℕ) (reached : Reached) (most : ℕ) (out : List ℕ) (at : ℕ) (after : List ℕ) (part : Part) where
   abbrev RunsBy : Bool → Type 0
-  RunsBy may = RunsIf may book next reached most out after part
+  RunsBy may = RunsIf may print book next reached most out at after part
 
-  pub runs : mayRunFrom book next reached ≡ true → RunOf book next reached most out after part → RunsBy (mayRunFrom book next reached)
+  pub runs : mayRunFrom book next reached ≡ true → RunOf print book next reached most out at after part → RunsBy (mayRunFrom book next reached)
   runs may ran = subst RunsBy (sym may) ran
 
-  pub runs-not : mayRunFrom book next reached ≡ false → after ≡ out → part ≡ record { count = 0; next = next; reached = reached }
+  pub runs-not : mayRunFrom book next reached ≡ false → after ≡ out → part ≡ record { count = at; next = next; reached = reached }
       → RunsBy (mayRunFrom book next reached)
   runs-not may kept nothing = subst RunsBy (sym may) (kept, nothing)
 
-  pub run-of : mayRunFrom book next reached ≡ true → RunsBy (mayRunFrom book next reached) → RunOf book next reached most out after part
+  pub run-of : mayRunFrom book next reached ≡ true → RunsBy (mayRunFrom book next reached) → RunOf print book next reached most out at after part
   run-of may by = subst RunsBy may by

@@ -5,13 +5,12 @@ use Rattle.refusals.specs.{Refusal}
 use Rattle.schedules.specs.{schedule6}
 use Rattle.table.specs.{longestTable}
 use Rattle.line_entry.specs.{AreaAct, Entry, Parsed}
-use Rattle.holding.specs.{Holding, Found, numbersIn}
-use Rattle.holding_look.specs.{Looked, lookedAt}
+use Rattle.holding.specs.{Holding, numbersIn}
+use Rattle.holding_look.specs.{Looked}
 use Rattle.step_outcome.specs.{Outcome, turnedBack}
 use Rattle.step.specs.{acted, applied}
 use Rattle.book_listing.specs.{entryTaken, parsedTaken}
-use Rattle.book_find.specs.{namedBy}
-use Rattle.book_find.proofs.Naming.{place-in-holding}
+use Rattle.book_find.proofs.Naming.{lookedFor, looked-up}
 use Rattle.book_column.specs.{columnOutcome, columnNumbers, columnCount}
 use Rattle.book_column.proofs.Fronts.{stays, column-leaves}
 use Rattle.book_run.specs.{refusalIn, parsedOutcome, Turn}
@@ -50,13 +49,8 @@ module _ (numbers : List ℕ) (count : ℕ) (fits : count ≤ longestTable) (lon
 -- ---- a turn of the fold
 
 module _ (own : List ℕ) (holding : Holding) (numbers : List ℕ) (n : numbers ≡ numbersIn (holding .areas)) (line : List ℕ) where
-  -- the area that a line names
-  abbrev pub lookedFor : Parsed → Looked
-  lookedFor parsed = let names = namedBy (take (holding .count) numbers) parsed in lookedAt holding (names .number) (names .found)
-
-  pub turn-taken : (parsed : Parsed) → parsedOutcome own schedule6 (lookedFor parsed) line parsed ≡ parsedTaken own holding line parsed
+  pub turn-taken : (parsed : Parsed) → parsedOutcome own schedule6 (lookedFor holding numbers parsed) line parsed ≡ parsedTaken own holding line parsed
   unfolding parsedOutcome columnOutcome parsedTaken entryTaken applied
   turn-taken (Parsed.Taken (Entry.Column column)) = refl
-  turn-taken (Parsed.Taken (Entry.On on)) =
-      ap (λ (found : Found). acted own schedule6 (lookedAt holding (on .area) found) (on .act)) (place-in-holding holding numbers (on .area) n)
+  turn-taken (Parsed.Taken (Entry.On on)) = ap (λ (x : Looked). acted own schedule6 x (on .act)) (looked-up holding numbers n on)
   turn-taken (Parsed.Refused refusal) = refl

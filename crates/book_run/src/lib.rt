@@ -4,7 +4,7 @@ ghost use Prim.Native.Nat.{_≤_};
 ghost use lib.ListN.{length, take};
 ghost use Rattle.table.specs.{longestTable};
 ghost use Rattle.book_reached.specs.{mayRunFrom};
-ghost use Rattle.book_run.specs.{refusalIn, Turn, RunsIf};
+ghost use Rattle.book_run.specs.{refusalIn, Turn, PutFor, RunsIf};
 use book_reached::Reached;
 use holding::Found;
 use holding::MOST_AREAS;
@@ -53,17 +53,56 @@ fn take_line(
     }
 }
 
-// What lines that are run come to: how many bytes were put, the place in the book of the line that comes next, and what the lines before it have come to.
+// What is put for each line: its line of the listing, or the row of an accepted S entry and nothing for any other line.
+pub enum Print {
+    Listing,
+    Rows,
+}
+
+// Puts what is put for a line, by its number in the book, as it was read and by what it came to; the answer is the place after what was put.
+fn put_for(
+    print: Print,
+    out: &mut [u8],
+    at: usize,
+    number: u64,
+    line: &[u8],
+    parsed: Parsed,
+    outcome: Outcome,
+) -> usize
+    ensures { λ r. ⌜ PutFor print (now (out .entry)) at number (now (line .entry)) parsed outcome (now (out .exit)) r ⌝ }
+{
+    match print {
+        Print::Listing => book_listing::put_line(out, at, number, outcome),
+        Print::Rows => {
+            let verdict = outcome.verdict;
+            if book_export::is_exported(parsed, verdict) {
+                return sheet_write::put_row(out, at, line);
+            }
+            at
+        }
+    }
+}
+
+// What lines that are run come to: the place after what was put, the place in the book of the line that comes next, and what the lines before it have
+// come to.
 pub struct Part {
     pub count: usize,
     pub next: usize,
     pub reached: Reached,
 }
 
-// Runs the lines of a book from a place on, so many at most, and puts what each prints; where the book cannot have come so far, nothing is run. The
-// numbers of the areas are kept beside them, so that no line is given the holding.
-pub fn put_lines(book: &[u8], next: usize, reached: Reached, most: usize, out: &mut [u8]) -> Part
-    ensures { λ r. ⌜ RunsIf (mayRunFrom (now (book .entry)) next reached) (now (book .entry)) next reached most (now (out .entry)) (now (out .exit)) r ⌝ }
+// Runs the lines of a book from a place on, so many at most, and puts what is put for each, from `at` on; where the book cannot have come so far, nothing
+// is run. The numbers of the areas are kept beside them, so that no line is given the holding.
+pub fn put_lines(
+    print: Print,
+    book: &[u8],
+    next: usize,
+    reached: Reached,
+    most: usize,
+    out: &mut [u8],
+    at: usize,
+) -> Part
+    ensures { λ r. ⌜ RunsIf (mayRunFrom (now (book .entry)) next reached) print (now (book .entry)) next reached most (now (out .entry)) at (now (out .exit)) r ⌝ }
 {
     if !book_reached::may_run(
         book.len(),
@@ -73,7 +112,7 @@ pub fn put_lines(book: &[u8], next: usize, reached: Reached, most: usize, out: &
         reached.refused,
     ) {
         return Part {
-            count: 0,
+            count: at,
             next,
             reached,
         };
@@ -86,7 +125,7 @@ pub fn put_lines(book: &[u8], next: usize, reached: Reached, most: usize, out: &
     let mut accepted = reached.accepted;
     let mut refused = reached.refused;
     let mut left = most;
-    let mut at: usize = 0;
+    let mut at = at;
     let mut i = next;
     while (i < book.len()) & (0 < left) {
         let end = text::end_of(book, i, b'\n');
@@ -113,7 +152,15 @@ pub fn put_lines(book: &[u8], next: usize, reached: Reached, most: usize, out: &
             &book[i..end],
             parsed,
         );
-        at = book_listing::put_line(out, at, accepted + refused + 1, outcome);
+        at = put_for(
+            print,
+            out,
+            at,
+            accepted + refused + 1,
+            &book[i..end],
+            parsed,
+            outcome,
+        );
         let verdict = outcome.verdict;
         let taken = book_listing::counted(verdict);
         accepted += taken;

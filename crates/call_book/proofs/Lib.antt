@@ -7,3 +7,4 @@ pub mod Feet
 pub mod CallsList
 pub mod Lengths
 pub mod Bound
+pub mod Imports

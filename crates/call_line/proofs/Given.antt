@@ -1,13 +1,13 @@
 -- What a call answers and leaves, from what its parts answered: a refused line decides, and else the act or the cells, with the table that they judged.
 use Rattle.laws.proofs.{ℕ, _≤_, _≡_, refl, sym, ap, _∙_, Bool, true, false, List, arith, length, leb}
-use Rattle.refusals.specs.{Refusal, Verdict, numberOf, weighed, smaller, Written, written}
+use Rattle.refusals.specs.{Refusal, Verdict, numberOf, weighed, smaller, Written, written, andThen}
 use Rattle.refusals.proofs.Smaller.{From, second-least}
 use Rattle.table.specs.{longestTable, isTable, judged}
 use Rattle.table.proofs.Judged.{judged-by}
 use Rattle.table_bytes.specs.{numbersOf}
 use Rattle.table_extend.specs.{begun, longer, extensible}
 use Rattle.table_extend.proofs.Refused.{no-table-extends}
-use Rattle.table_grow.specs.{lineColumn, lineCells, longerBy, andThen, growable}
+use Rattle.table_grow.specs.{lineColumn, lineCells, longerBy, growable}
 use Rattle.line_entry.specs.{AreaAct, Entry, Parsed}
 use Rattle.line_column.specs.{columnOf}
 use Rattle.line.specs.{fieldsOf, entryOf, asColumn}
@@ -21,7 +21,7 @@ use Rattle.call_answer.specs.{tableVerdict, entryBytes, callVerdict, callBytes,
 use Rattle.call_answer.proofs.Order.{read-from-eleven, table-decides, entry-weighed, entry-writes}
 use Rattle.call_column.specs.{cellsVerdict}
 use Rattle.call_step.specs.{stepOutcome, stepVerdict, stepBytes}
-use Rattle.call_line.proofs.TableRead.{Lent}
+use Rattle.call_answer.proofs.TableRead.{Lent}
 
 -- a statement that is refused has a greater number than what is no table
 table-first : (v : Verdict) → From 11 v → smaller v (Verdict.Refused Refusal.TableColumn) ≡ Verdict.Refused Refusal.TableColumn

@@ -1,2 +1,1 @@
-pub mod TableRead
 pub mod Given

@@ -1,6 +1,6 @@
 -- Tests over a whole list: where none passes, no element does; and what is kept is what passes.
 use mathlib.Core.Bool.{Bool, true, false, cond, _||_}
-use mathlib.Core.Path.{_≡_, refl, ap, _∙_}
+use mathlib.Core.Path.{_≡_, refl, sym, ap, _∙_}
 use mathlib.Core.List.{List, [], _∷_, foldl, List·Memᴰ, List·Memᴰ·head, List·Memᴰ·tail}
 use Rattle.laws.specs.{some, keep}
 
@@ -20,6 +20,12 @@ or-assoc false b c = refl
 pub or-none : (a : Bool) → (a || false) ≡ a
 or-none true = refl
 or-none false = refl
+
+-- two tests that tell each other are one
+pub same-test : (a b : Bool) → (a ≡ true → b ≡ true) → (b ≡ true → a ≡ true) → a ≡ b
+same-test true b f g = sym (f refl)
+same-test false true f g = g refl
+same-test false false f g = refl
 
 module _ {A : Type 0} (p : A → Bool) where
   pub none-passes : (a : A) (l : List A) → some p l ≡ false → List·Memᴰ a l → p a ≡ false

@@ -12,7 +12,7 @@ use refusals::Refusal;
 use refusals::Verdict;
 
 // The longest line, besides its end.
-const LONGEST: usize = 1024;
+pub const LONGEST: usize = 1024;
 
 // The line besides its end.
 fn body(line: &[u8]) -> &[u8]

@@ -1,6 +1,6 @@
 -- What a clear verdict says: it was clear before the last case, and that case did not apply; so none of a table applies.
-use Rattle.laws.proofs.{ℕ, zero, suc, _<_, Bool, true, false, _≡_, refl, List, [], _∷_, getD, lit≤}
-use Rattle.refusals.specs.{Refusal, Verdict, numberOf, Case, _⇒_, weighed, weighAll, smallest}
+use Rattle.laws.proofs.{ℕ, zero, suc, _<_, Bool, true, false, _≡_, refl, List, [], _∷_, arith, getD, lit≤}
+use Rattle.refusals.specs.{Refusal, Verdict, numberOf, Case, _⇒_, weighed, weighAll, smallest, andThen}
 
 pub clear-before : (v : Verdict) (b : Bool) (r : Refusal) → weighed v b r ≡ Verdict.Accepted → v ≡ Verdict.Accepted
 unfolding weighed
@@ -13,6 +13,11 @@ clear-last (Verdict.Refused s) true r e = cc
 clear-last (Verdict.Refused s) false r e = refl
 clear-last Verdict.Accepted true r e = cc
 clear-last Verdict.Accepted false r e = refl
+
+-- two verdicts in a stated order
+pub both-clear : (v w : Verdict) → andThen v w ≡ Verdict.Accepted → (v ≡ Verdict.Accepted) × (w ≡ Verdict.Accepted)
+both-clear Verdict.Accepted w e = (refl, e)
+both-clear (Verdict.Refused r) w e = (e, let z : _≡_ {A = ℕ} 0 1 = cc in absurd (omega arith))
 
 -- ---- a clear verdict over a table of cases: none of them applies
 
@@ -64,3 +69,5 @@ number-range Refusal.PlantingUnderTrees = (lit≤ tt, lit≤ tt)
 number-range Refusal.YearBefore = (lit≤ tt, lit≤ tt)
 number-range Refusal.PlantedAfterOpening = (lit≤ tt, lit≤ tt)
 number-range Refusal.TableAfterArea = (lit≤ tt, lit≤ tt)
+number-range Refusal.SheetForm = (lit≤ tt, lit≤ tt)
+number-range Refusal.SheetRow = (lit≤ tt, lit≤ tt)

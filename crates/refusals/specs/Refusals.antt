@@ -1,4 +1,4 @@
--- Refusals under document 01's numbers ("Turned back by the input", "Turned back by the state"), and the smallest that applies.
+-- Refusals under document 01's numbers ("Turned back by the input", "Turned back by the state") and those of document 02, and the smallest that applies.
 use Rattle.laws.specs.{ℕ, Bool, true, false, cond, List, [], _∷_, leb}
 use Rattle.refusals.specs.declared.Refusal.{Refusal}
 use Rattle.refusals.specs.declared.Verdict.{Verdict}
@@ -39,6 +39,9 @@ numberOf Refusal.YearBefore = 31
 -- "32 planted after opening; 33 T once an area stands"
 numberOf Refusal.PlantedAfterOpening = 32
 numberOf Refusal.TableAfterArea = 33
+-- document 02, item 3: "41 quoting or a row end broken ..; 42 a row without five fields or another first row"
+numberOf Refusal.SheetForm = 41
+numberOf Refusal.SheetRow = 42
 
 -- a refusal, and whether it applies
 pub record Case : Type 0 where
@@ -62,6 +65,11 @@ weighAll v (c ∷ cs) = weighAll (weighed v (c .applies) (c .refusal)) cs
 -- "The smallest number that applies is given, otherwise none": the first that applies, of cases in rising order
 unfoldable pub smallest : List Case → Verdict
 smallest cs = weighAll Verdict.Accepted cs
+
+-- of two verdicts in a stated order, the first refusal
+abbrev pub andThen : Verdict → Verdict → Verdict
+andThen Verdict.Accepted next = next
+andThen (Verdict.Refused refusal) next = Verdict.Refused refusal
 
 -- of two verdicts the refusal with the smaller number
 abbrev pub smaller : Verdict → Verdict → Verdict

@@ -1,4 +1,4 @@
-// Refusals under document 01's numbers, the smallest that applies, and what a write into a lent buffer answers.
+// Refusals under the numbers of documents 01 and 02, the smallest that applies, and what a write into a lent buffer answers.
 ghost use mathlib.Core.Path.{_≡_};
 ghost use Rattle.refusals.specs.{numberOf, weighed, smaller};
 
@@ -27,6 +27,8 @@ pub enum Refusal {
     YearBefore,
     PlantedAfterOpening,
     TableAfterArea,
+    SheetForm,
+    SheetRow,
 }
 
 // Nothing has applied so far, or a refusal has.
@@ -69,6 +71,8 @@ pub fn number(refusal: Refusal) -> u8
         Refusal::YearBefore => 31,
         Refusal::PlantedAfterOpening => 32,
         Refusal::TableAfterArea => 33,
+        Refusal::SheetForm => 41,
+        Refusal::SheetRow => 42,
     }
 }
 

@@ -1,10 +1,10 @@
 -- What a verdict makes of a step: its refusal alone, or the outcome that an accepted step has.
-use Rattle.laws.proofs.{ℕ, _≤_, Bool, true, false, not, _≡_, refl, sym, ap, List, length, set, set-out}
+use Rattle.laws.proofs.{ℕ, _≤_, Bool, true, false, not, _≡_, refl, sym, ap, List, length, set, length-set, set-out}
 use Rattle.refusals.specs.{Refusal, Verdict}
 use Rattle.holding.specs.{Area, Holding, Found}
 use Rattle.holding_look.specs.{known}
 use Rattle.statement_carried.specs.{fieldsCarried}
-use Rattle.step_outcome.specs.{Outcome, turnedBack, answered, placed, uncarried}
+use Rattle.step_outcome.specs.{Outcome, turnedBack, answered, placedAt, placed, uncarried}
 
 -- the verdict w that was reached is the definition's, v
 module _ (v w : Verdict) (e : w ≡ v) where
@@ -51,3 +51,12 @@ module _ (holding : Holding) (outcome : Outcome) where
   pub placed-nowhere : outcome .place ≡ Found.Nowhere → holding ≡ placed holding outcome
   unfolding placed
   placed-nowhere e = rw e
+
+-- a step leaves as many places for areas as there were
+pub placed-long : (holding : Holding) (outcome : Outcome) → length (placed holding outcome .areas) ≡ length (holding .areas)
+unfolding placed
+placed-long holding outcome = go (outcome .place)
+  where
+    go : (found : Found) → length (placedAt holding found (outcome .count) (outcome .area) .areas) ≡ length (holding .areas)
+    go (Found.At i) = length-set (holding .areas) i (outcome .area)
+    go Found.Nowhere = refl

@@ -1,20 +1,16 @@
 -- The longer table, for those who lend it on: an extension that is not refused has room, so the table is the front of the numbers.
 use Rattle.laws.proofs.{ℕ, _≤_, _≡_, refl, ap, _∙_, List, arith, length, take, drop, replicate, take-append-seam}
 use Rattle.refusals.specs.{Verdict, bufferAfter, Refusal}
-use Rattle.refusals.proofs.Laws.{clear-before}
+use Rattle.refusals.proofs.Laws.{clear-before, both-clear}
 use Rattle.table.specs.{longestTable}
 use Rattle.line.specs.{asColumn}
 use Rattle.table_extend.specs.{begun, extensible}
 use Rattle.table_extend.proofs.Longer.{longer-length, clear-extensible}
-use Rattle.table_grow.specs.{Grown, lineColumn, lineCells, longerBy, andThen, growable, countAfter, grownOf, grownBy}
+use Rattle.table_grow.specs.{Grown, lineColumn, lineCells, longerBy, growable, countAfter, grownOf, grownBy}
 
 clear-front : (v : Verdict) (numbers : List ℕ) → v ≡ Verdict.Accepted → take (grownOf v numbers .count) (grownOf v numbers .numbers) ≡ numbers
 unfolding bufferAfter
 clear-front v numbers e = rw e (take-append-seam numbers (drop (length numbers) (replicate longestTable 0)))
-
-both-clear : (v w : Verdict) → andThen v w ≡ Verdict.Accepted → (v ≡ Verdict.Accepted) × (w ≡ Verdict.Accepted)
-both-clear Verdict.Accepted w e = (refl, e)
-both-clear (Verdict.Refused r) w e = (e, let z : _≡_ {A = ℕ} 0 1 = cc in absurd (omega arith))
 
 module _ (own : List ℕ) (areas : ℕ) (line : List ℕ) (clear : growable own areas line ≡ Verdict.Accepted) where
   -- the line is a T line, and its column extends the table

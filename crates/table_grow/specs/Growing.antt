@@ -1,6 +1,6 @@
 -- "T,kind,type,cells: .. It extends the table; refused (6) where its column or a later one already has cells." "33 T once an area stands."
 use Rattle.laws.specs.{ℕ, List, leb, length, replicate}
-use Rattle.refusals.specs.{Verdict, weighed, bufferAfter, Refusal}
+use Rattle.refusals.specs.{Verdict, weighed, andThen, bufferAfter, Refusal}
 use Rattle.table.specs.{longestTable}
 use Rattle.table_extend.specs.{begun, longer, extensible}
 use Rattle.line_cells.specs.{tenthsAll}
@@ -19,11 +19,6 @@ lineCells line = tenthsAll (cellsOf (fieldsOf line))
 -- the table with the line's column: ten lengths and the cells
 unfoldable pub longerBy : List ℕ → List ℕ → List ℕ
 longerBy own line = longer (begun own) (lineColumn line) (lineCells line)
-
--- a verdict, and where it accepts the one behind it
-abbrev pub andThen : Verdict → Verdict → Verdict
-andThen Verdict.Accepted next = next
-andThen (Verdict.Refused refusal) next = Verdict.Refused refusal
 
 -- what refuses the line as a T line, at most 6; then 6 by the table; then 33 where areas stand; there is room for any table
 unfoldable pub growable : List ℕ → ℕ → List ℕ → Verdict

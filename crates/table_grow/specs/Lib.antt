@@ -1,4 +1,4 @@
 pub mod Growing
 pub use declared.Grown.{Grown}
-pub use Growing.{andThen, countAfter, grownOf}
+pub use Growing.{countAfter, grownOf}
 unfoldable pub use Growing.{lineColumn, lineCells, longerBy, growable, grownBy}

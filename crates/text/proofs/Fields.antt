@@ -37,7 +37,7 @@ split-some (b ∷ s) = go (eqb b comma) (split s)
     go false [] = omega arith
     go false (f ∷ fs) = omega arith
 
-join-extend : (b : ℕ) (fs : List (List ℕ)) → join (extend b fs) ≡ b ∷ join fs
+pub join-extend : (b : ℕ) (fs : List (List ℕ)) → join (extend b fs) ≡ b ∷ join fs
 unfolding join extend joinAfter
 join-extend b [] = refl
 join-extend b (f ∷ []) = refl

@@ -9,7 +9,7 @@ use Rattle.book_listing.proofs.Folding.{listing-over, listing-lines}
 use Rattle.book_reached.specs.{Reached, runOf, nothingReached, mayRun, mayRunFrom}
 use Rattle.book_run.specs.{Part, linesFrom}
 use Rattle.book_parts.specs.{partLines, closingAt, partFrom, partOf, ComesTo}
-use Rattle.book_parts.proofs.Parts.{begun, may-begin}
+use Rattle.book_reached.proofs.Bounds.{begun, may-begin}
 use Rattle.theorem_parts.specs.{InParts, joinedParts}
 
 -- ---- so many lines, and those behind them

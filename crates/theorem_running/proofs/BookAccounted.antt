@@ -12,12 +12,12 @@ use Rattle.step_outcome.proofs.Laws.{answered-clear}
 use Rattle.step.specs.{applied}
 use Rattle.statement_format.specs.{statementOf}
 use Rattle.book_print.specs.{reportText, refusalText, endText}
-use Rattle.book_listing.specs.{linesOf, columnTaken, entryTaken, parsedTaken, lineTaken, entryTable, parsedTable, ifAccepted, Run, start, next, printed, runFrom, closing, listFrom, longestBook, listingOf}
+use Rattle.book_listing.specs.{linesOf, columnTaken, entryTaken, parsedTaken, lineTaken, entryTable, parsedTable, ifAccepted, Run, start, next, printed, runFrom, closing, listFrom, longestBook, linesRun, listingOf}
 use Rattle.book_listing.proofs.Folding.{list-line, list-none}
 use Rattle.book_room.proofs.Feet.{kept-foot}
 use Rattle.book_room.proofs.Runs.{RunKept, start-kept, next-kept, run-kept}
 use Rattle.call_book.proofs.Taken.{line-leaves, next-refused, next-accepted, printed-refused, printed-accepted}
-use Rattle.theorem_running.specs.{actsIn, RunAccounted, linesRun, actsFrom, reportsIn, BookAccounted}
+use Rattle.theorem_running.specs.{actsIn, RunAccounted, actsFrom, reportsIn, BookAccounted}
 use Rattle.theorem_running.proofs.Standing.{column-first}
 use Rattle.theorem_running.proofs.Following.{Follows, follows-as, none-follow, column-follows, act-follows, follows-accounted}
 use Rattle.theorem_running.proofs.ReportLines.{report-told, refusal-untold, foot-untold, end-untold}

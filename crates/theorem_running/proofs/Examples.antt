@@ -25,11 +25,11 @@ use Rattle.statement_parse.specs.{itemsFrom, subsFrom, subsAt, yearsAt, amounts
 use Rattle.statement.specs.{acceptable, readOf}
 use Rattle.book_print.specs.{changeText, reportText, pairText, refusalText, footText, endText}
 use Rattle.book_foot.specs.{allCarried, summable, footOf}
-use Rattle.book_listing.specs.{linesOf, entryTaken, parsedTaken, lineTaken, tableAfter, start, next, printedFor, printed, runFrom, printedFrom, listFrom, listingOf}
+use Rattle.book_listing.specs.{linesOf, entryTaken, parsedTaken, lineTaken, tableAfter, start, next, printedFor, printed, runFrom, printedFrom, listFrom, linesRun, listingOf}
 use Rattle.call_output.specs.{withRoom}
 use Rattle.call_answer.specs.{tableVerdict, callVerdict, entryBytes, callBytes, callWeighed, callAnswer, callOutput}
 use Rattle.call_book.specs.{begin, isColumnLine, beforeReport, afterCall, shownAfter}
-use Rattle.theorem_running.specs.{sentFrom, reportsFrom, linesRun, actsFrom, ended, reportsIn}
+use Rattle.theorem_running.specs.{sentFrom, reportsFrom, actsFrom, ended, reportsIn}
 
 -- A,7,2010; R,7,2010; W,8, of which the last is refused
 abbrev lines : List (List ℕ)

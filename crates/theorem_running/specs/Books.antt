@@ -1,16 +1,12 @@
 -- The listing of a book, whose T lines come before the first area.
-use Rattle.laws.specs.{ℕ, Bool, cond, List, [], _∷_, _++_, ltb, length, getD, keep}
+use Rattle.laws.specs.{ℕ, Bool, List, [], _∷_, _++_, getD, keep}
 use Rattle.text.specs.{lineEnd}
 use Rattle.line_entry.specs.{AreaAct}
 use Rattle.line.specs.{entryOf}
 use Rattle.statement_format.specs.{texts, statementOf}
-use Rattle.book_listing.specs.{linesOf, lineTaken, ifAccepted, Run, start, next, runFrom, longestBook, listingOf}
+use Rattle.book_listing.specs.{linesOf, lineTaken, ifAccepted, Run, start, next, runFrom, linesRun, listingOf}
 use Rattle.call_book.specs.{isReportLetter}
 use Rattle.theorem_running.specs.Running.{actsIn, RunAccounted}
-
--- the lines that are run: "For a book over 65536 bytes `book` prints X,0,1 and E,0,1 alone."
-unfoldable pub linesRun : List ℕ → List (List ℕ)
-linesRun book = cond (ltb longestBook (length book)) [] (linesOf book)
 
 -- the acts of the lines that were accepted, from some run on
 unfoldable pub actsFrom : Run → List (List ℕ) → List AreaAct

@@ -6,4 +6,4 @@ unfoldable pub use Running.{reportsOf}
 pub use Calls.{answerTo, ifTaken, CallsAccounted}
 unfoldable pub use Calls.{sentFrom, reportsFrom}
 pub use Books.{isReport, ended, BookAccounted}
-unfoldable pub use Books.{linesRun, actsFrom, reportsIn}
+unfoldable pub use Books.{actsFrom, reportsIn}

@@ -1,4 +1,4 @@
-//! What is turned back, by document 01's numbers.
+//! What is turned back, by the numbers of documents 01 and 02.
 
 #[derive(Debug, Clone, Copy, PartialEq, Eq, PartialOrd, Ord)]
 #[repr(u8)]
@@ -27,6 +27,8 @@ pub enum Refusal {
     YearTooEarly = 31,
     PlantedAfterOpening = 32,
     TableAfterArea = 33,
+    SheetForm = 41,
+    SheetRow = 42,
 }
 
 impl Refusal {

@@ -9,15 +9,16 @@ use Rattle.holding.specs.{Holding, mostAreas, numbersIn}
 use Rattle.holding_look.specs.{areaAt}
 use Rattle.holding_look.proofs.Laws.{area-here, area-out, area-nowhere}
 use Rattle.step_outcome.specs.{placed}
-use Rattle.step_outcome.proofs.Laws.{placed-here, placed-out, placed-nowhere}
+use Rattle.step_outcome.proofs.Laws.{placed-here, placed-out, placed-nowhere, placed-long}
 use Rattle.table.specs.{longestTable}
 use Rattle.book_print.specs.{reportWidth}
-use Rattle.book_listing.specs.{Run, runFrom, printedFrom, longestBook}
-use Rattle.book_listing.proofs.Folding.{from-line, run-line, left-line, from-none, run-none}
+use Rattle.book_listing.specs.{Run, runFrom, longestBook}
+use Rattle.book_listing.proofs.Folding.{lines-taken, run-line, left-line, run-none}
 use Rattle.book_reached.specs.{mayRunFrom}
 use Rattle.book_reached.proofs.Bounds.{Bounds, bounds, may}
-use Rattle.book_run.specs.{Part, linesFrom, RunOf}
-use Rattle.book_run.proofs.Following.{placed-long, turn-prints, turn-runs}
+use Rattle.book_run.specs.{Part, Print, printedBy, linesFrom, RunOf}
+use Rattle.book_run.proofs.Following.{turn-puts, turn-runs}
+use Rattle.book_run.proofs.Printing.{from-line, from-none}
 use Rattle.book_run.proofs.Runs.{goes-on, stopped, runs, runs-not}
 use Rattle.book_run.proofs.put_lines.Tie as tie
 
@@ -26,20 +27,20 @@ abbrev carried : List ℕ → ℕ → Holding → ℕ → ℕ → Run
 carried table count holding accepted refused = record { own = take count table; holding = holding; accepted = accepted; refused = refused }
 
 abbrev Inv-loop : tie.InvT-loop
-Inv-loop book next most out₀ default holding₀ numbers₀ table₀ count₀ accepted₀ refused₀ left₀ at₀ i₀ out holding numbers table count accepted refused left at i =
+Inv-loop print book next most out₀ start default holding₀ numbers₀ table₀ count₀ accepted₀ refused₀ left₀ at₀ i₀ out holding numbers table count accepted refused left at i =
     Bounds (length book) i count accepted refused
     × (length table ≡ longestTable) × (length (holding .areas) ≡ mostAreas) × (length out ≡ length out₀)
     × ((o : List ℕ) (p : ℕ)
-    → Wrote out at (printedFrom (carried table count holding accepted refused) (take left (linesFrom book i))) o p
-    → Wrote out₀ 0 (printedFrom (carried table₀ count₀ holding₀ accepted₀ refused₀) (take most (linesFrom book next))) o p)
+    → Wrote out at (printedBy print (carried table count holding accepted refused) (take left (linesFrom book i))) o p
+    → Wrote out₀ start (printedBy print (carried table₀ count₀ holding₀ accepted₀ refused₀) (take most (linesFrom book next))) o p)
     × (runFrom (carried table count holding accepted refused) (take left (linesFrom book i))
     ≡ runFrom (carried table₀ count₀ holding₀ accepted₀ refused₀) (take most (linesFrom book next)))
     × (drop left (linesFrom book i) ≡ drop most (linesFrom book next))
     × (numbers ≡ numbersIn (holding .areas))
-    × (at ≤ greatest) × (at + left * reportWidth ≤ most * reportWidth) × (next + most ≤ i + left)
+    × (at ≤ greatest) × (print ≡ Print.Listing → at + left * reportWidth ≤ start + most * reportWidth) × (next + most ≤ i + left)
 
 abbrev μ-loop : tie.MeasureT-loop
-μ-loop book next most out₀ default holding₀ numbers₀ table₀ count₀ accepted₀ refused₀ left₀ at₀ i₀ out holding numbers table count accepted refused left at i = length book - i
+μ-loop print book next most out₀ start default holding₀ numbers₀ table₀ count₀ accepted₀ refused₀ left₀ at₀ i₀ out holding numbers table count accepted refused left at i = length book - i
 
 -- the start of the function, from the loop
 abbrev startOf : tie.At-loop Inv-loop μ-loop → tie.Start Inv-loop μ-loop
@@ -65,11 +66,11 @@ loop-holds : tie.Need-loop-holds Inv-loop μ-loop
 loop-holds c =
     let tested = c .before .before .before .before in
     let a = tested .before .before .before .before in
-    (bounds _ _ _ _ _ (sym (tested .before .may-run .ensures) ∙ not-false _ (tested .if1 .left)), long-table a, many-areas a, refl, λ o p w. w, refl, refl, c .before .numbers-of .ensures, omega arith, omega arith, omega arith)
+    (bounds _ _ _ _ _ (sym (tested .before .may-run .ensures) ∙ not-false _ (tested .if1 .left)), long-table a, many-areas a, refl, λ o p w. w, refl, refl, c .before .numbers-of .ensures, omega arith, λ q. omega arith, omega arith)
 
 -- the line taken before the holding changes, the area looked up before it was taken, the line's end before that, and the loop's turn
 abbrev takenOf : tie.At-match2-came Inv-loop μ-loop → tie.After-take-line Inv-loop μ-loop
-takenOf c = c .before .before .before .before .before .before
+takenOf c = c .before .before .before .before .before .before .before
 
 abbrev lookedOf : tie.At-match2-came Inv-loop μ-loop → tie.At-match-came Inv-loop μ-loop
 lookedOf c = takenOf c .before .before .before .before .before
@@ -147,11 +148,12 @@ loop-less c = let e = endOf (lookedOf c) in omega (arith, ended e, turns e .0)
 loop-again : tie.Need-loop-again Inv-loop μ-loop
 loop-again c =
     let counts = c .before .counted in
-    let put = c .before .before .before .before .put-line .ensures in
+    let put = c .before .before .before .before .put-for .ensures in
     let t = takenOf c in
     let k = lookedOf c in
     let e = endOf k in
     let l = loopOf k in
+    let print = startOf l .args .print in
     let book = bookOf l in
     let line = take (e .end-of .result - l .loop .i) (drop (l .loop .i) book) in
     let turn = t .take-line .ensures in
@@ -164,7 +166,7 @@ loop-again c =
     let runs =
     turn-runs (runAt l) (l .loop .numbers) (l .loop .inv .7) line _ _ _ _ _ (t .take-line .result) (turn .comes) read names found area six _ _ leaves _ _ _ (counts .result)
     (stands c) (counts .ensures .0) refl refl in
-    let prints = turn-prints (runAt l) (l .loop .numbers) (l .loop .inv .7) line _ _ _ _ _ (t .take-line .result) (turn .comes) read names found area six in
+    let puts = turn-puts (runAt l) (l .loop .numbers) (l .loop .inv .7) line _ _ _ _ _ (t .take-line .result) (turn .comes) read names found area six print in
     let inside = turns e .0 in
     let some = turns e .1 in
     let b = l .loop .inv .0 in (
@@ -180,13 +182,14 @@ loop-again c =
       wrote-length (put .wrote) ∙ l .loop .inv .3,
       λ o p w.
           l .loop .inv .4 o p
-          (wrote-as (from-line book (l .loop .i) (e .end-of .result) (l .loop .left) inside some (e .end-of .ensures) (runAt l) _ runs)
-          (wrote-then (wrote-as prints (put .wrote)) w)),
+          (wrote-as
+          (from-line print (runAt l) line _ _ _ runs (lines-taken book (l .loop .i) (e .end-of .result) (l .loop .left) inside some (e .end-of .ensures)))
+          (wrote-then (wrote-as puts (put .wrote)) w)),
       run-line book (l .loop .i) (e .end-of .result) (l .loop .left) inside some (e .end-of .ensures) (runAt l) _ runs ∙ l .loop .inv .5,
       left-line book (l .loop .i) (e .end-of .result) (l .loop .left) inside some (e .end-of .ensures) ∙ l .loop .inv .6,
       numbered c,
       omega (arith, put .wrote .place),
-      omega (arith, put .wrote .place, put .few, l .loop .inv .9, some),
+      λ q. omega (arith, put .wrote .place, put .few q, l .loop .inv .9 q, some),
       omega (arith, ended e, some, l .loop .inv .10),
     )
 
@@ -194,7 +197,7 @@ loop-again c =
 returns : tie.Need-returns Inv-loop μ-loop
 returns c =
     let a = c .before .before .before .before .args in
-    runs-not (a .book .now) (a .next) (a .reached) (a .most) (a .out .now) _ _ (sym (c .before .may-run .ensures) ∙ not-true _ (c .if1 .taken)) refl refl
+    runs-not (a .print) (a .book .now) (a .next) (a .reached) (a .most) (a .out .now) (a .at) _ _ (sym (c .before .may-run .ensures) ∙ not-true _ (c .if1 .taken)) refl refl
 
 -- how far the loop has come
 abbrev partAt : tie.At-loop Inv-loop μ-loop → Part
@@ -210,15 +213,15 @@ returns-2 c =
     let a = startOf l .args in
     let stop = stopped (bookOf l) (l .loop .i) (l .loop .left) (c .loop-test .left) in
     let none = wrote-none (l .loop .out) (l .loop .at) (omega (arith, l .loop .inv .3, bounded-out (startOf l))) (l .loop .inv .8) in
-    let ran : RunOf (bookOf l) (a .next) (a .reached) (a .most) (a .out .now) (l .loop .out) (partAt l) = record {
-      wrote = l .loop .inv .4 _ _ (wrote-as (from-none (runAt l) _ (stop .none)) none);
+    let ran : RunOf (a .print) (bookOf l) (a .next) (a .reached) (a .most) (a .out .now) (a .at) (l .loop .out) (partAt l) = record {
+      wrote = l .loop .inv .4 _ _ (wrote-as (from-none (a .print) (runAt l) _ (stop .none)) none);
       run = run-none (runAt l) _ (stop .none) ∙ l .loop .inv .5;
       left = stop .rest ∙ l .loop .inv .6;
       may = may _ _ _ _ _ (l .loop .inv .0);
       on = λ many inside. ⊎-elim (λ over. omega (arith, over, inside)) (λ spent. omega (arith, l .loop .inv .10, many, spent)) (stop .reason);
-      short = omega (arith, l .loop .inv .9);
+      short = λ q. omega (arith, l .loop .inv .9 q);
     } in
-    runs _ _ _ _ _ _ _ (can-run l) ran
+    runs _ _ _ _ _ _ _ _ _ (can-run l) ran
 
 pub put-lines-spec : {M : Type 1} → Rattle.book_run.proofs.put_lines.Statement.statement M
 put-lines-spec = tie.close (tie.spec Inv-loop μ-loop (λ c κs. search needs) returns (λ c κs. search needs) (λ c κs. search needs) loop-holds (λ c κs. search needs)
@@ -229,9 +232,12 @@ put-lines-spec = tie.close (tie.spec Inv-loop μ-loop (λ c κs. search needs) r
     (λ c. search needs) (λ c. search needs) (λ c. omega (arith, ended (endOf (c .before .before .before))))
     (λ c. omega (arith, ended (endOf (c .before .before .before)))) (λ c. omega (arith, ended (endOf (c .before .before .before)))) table-stands
     (λ c. omega (arith, few (c .before .before .before .before .before .before))) (λ c. omega (arith, few (c .before .before .before .before .before .before)))
+    (λ c. omega (arith, ended (endOf (c .before .before .before .before .before .before))))
+    (λ c. omega (arith, ended (endOf (c .before .before .before .before .before .before))))
+    (λ c. omega (arith, ended (endOf (c .before .before .before .before .before .before))))
     (λ c κs. search needs) (λ c κs. search needs)
-    (λ c. omega (arith, c .counted .ensures .1, few (c .before .before .before .before .before .before .before .before .before .before)))
+    (λ c. omega (arith, c .counted .ensures .1, few (c .before .before .before .before .before .before .before .before .before .before .before)))
     (λ c. omega (arith, c .counted .ensures .1))
-    (λ c. omega (arith, c .counted .ensures .1, few (c .before .before .before .before .before .before .before .before .before .before)))
+    (λ c. omega (arith, c .counted .ensures .1, few (c .before .before .before .before .before .before .before .before .before .before .before)))
     (λ c. search needs) (λ c. omega arith) (λ c. search needs) (λ c. omega arith) (λ c. omega arith) (λ c. search needs) add-i sub-left loop-less loop-again
     (λ c. c .before .loop .inv .3) returns-2)

@@ -4,7 +4,7 @@ use Rattle.line_entry.specs.{Parsed}
 use Rattle.line.proofs.Columns.{column-named}
 use Rattle.call_line.specs.{refusedBy}
 use Rattle.call_answer.proofs.Order.{line-decides, table-decides}
-use Rattle.call_line.proofs.TableRead.{no-table, table-refused, table-few, table-lent}
+use Rattle.call_answer.proofs.TableRead.{no-table, table-refused, table-few, table-lent}
 use Rattle.call_line.proofs.Given.{call-refused, call-by, call-step}
 use Rattle.call_line.proofs.call.Statement.{statement}
 use Rattle.call_line.proofs.call.Tie as tie

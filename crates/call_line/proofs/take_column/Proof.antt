@@ -6,7 +6,7 @@ use Rattle.table_grow.specs.{lineCells}
 use Rattle.table_grow.proofs.Cells.{Room, read-verdict, read-number, read-few, read-cells}
 use Rattle.call_answer.proofs.Order.{line-decides, table-decides}
 use Rattle.call_output.proofs.Given.{gives-refused}
-use Rattle.call_line.proofs.TableRead.{no-table, table-refused, table-few, table-lent}
+use Rattle.call_answer.proofs.TableRead.{no-table, table-refused, table-few, table-lent}
 use Rattle.call_line.proofs.Given.{call-column}
 use Rattle.call_line.proofs.take_column.Statement.{statement}
 use Rattle.call_line.proofs.take_column.Tie as tie

@@ -1,4 +1,5 @@
-use carbon_twin::call::{engine_calls, Call, Calls, TWIN};
+use carbon_twin::call::{CallOfThree, Calls, TWIN};
+use carbon_twin::engine::engine_calls;
 
 pub const EMPTY: &[u8] = b"H,0\n";
 
@@ -10,12 +11,12 @@ pub fn both_calls() -> Vec<(&'static str, Calls)> {
 }
 
 /// Of each, the call that takes a line.
-pub fn calls() -> Vec<(&'static str, Call)> {
+pub fn calls() -> Vec<(&'static str, CallOfThree)> {
     both_calls().into_iter().map(|(name, calls)| (name, calls.line)).collect()
 }
 
 /// The bytes written, or the refusal's number. The output has room for any answer.
-pub fn answer(call: Call, statement: &[u8], table: &[u8], line: &[u8]) -> Result<Vec<u8>, i64> {
+pub fn answer(call: CallOfThree, statement: &[u8], table: &[u8], line: &[u8]) -> Result<Vec<u8>, i64> {
     let mut out = vec![0xA5; 12_000];
     let length = call(statement, table, line, &mut out);
     let kept = if length < 0 { 0 } else { length as usize };
@@ -29,14 +30,14 @@ pub fn answer(call: Call, statement: &[u8], table: &[u8], line: &[u8]) -> Result
 
 /// What the recorder keeps between calls, and what it was told.
 pub struct Recorder {
-    pub call: Call,
+    pub call: CallOfThree,
     pub statement: Vec<u8>,
     pub table: Vec<u8>,
     pub told: String,
 }
 
 impl Recorder {
-    pub fn new(call: Call) -> Recorder {
+    pub fn new(call: CallOfThree) -> Recorder {
         Recorder { call, statement: EMPTY.to_vec(), table: Vec::new(), told: String::new() }
     }
 

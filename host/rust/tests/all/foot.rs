@@ -1,7 +1,7 @@
 //! The foot of a listing, and of a statement: document 02, item 2.
 
 use crate::common::{both_calls, Recorder, EMPTY};
-use carbon_twin::call::FootCall;
+use carbon_twin::call::CallOfOne;
 use carbon_twin::listing::book;
 
 /// Three areas that receive units: the second surrenders a part of them and the third is withdrawn.
@@ -37,7 +37,7 @@ fn listing(text: &str) -> String {
 }
 
 /// The foot of the statement, or the refusal's number. The output has room for any foot, and one byte more.
-fn foot(call: FootCall, statement: &str) -> Result<String, i64> {
+fn foot(call: CallOfOne, statement: &str) -> Result<String, i64> {
     let mut out = vec![0xA5; LONGEST.len() + 1];
     let length = call(statement.as_bytes(), &mut out);
     let kept = usize::try_from(length).unwrap_or(0);

@@ -2,8 +2,10 @@
 
 mod common;
 mod document;
+mod exports;
 mod foot;
 mod land;
 mod refusals;
+mod sheets;
 mod statement_forms;
 mod statements;

@@ -1,24 +1,45 @@
-//! Whole books: what a program prints for them, against the twin's listing.
+//! Whole books: what a program prints for them, against what the twin prints.
 
 use crate::cases::Cases;
-use crate::kinds::Kinds;
+use crate::kinds::{Kind, Kinds, EXPORTED, LISTED};
 use crate::random::Random;
 use carbon_twin::listing::book;
 use carbon_twin::ranges::BOOK_BYTES;
+use carbon_twin::sheet;
+use carbon_twin::text::push_line;
 use std::io::Write;
 use std::process::{Command, Stdio};
 
 /// Below so many books, a kind may well be missing by chance.
 const ENOUGH_FOR_EVERY_KIND: u64 = 500;
 
-pub fn compare(program: &str, books: u64, seed: u64) -> Result<String, String> {
+/// What is printed for a book, and the kinds of books that must come.
+pub struct Printed {
+    by_twin: fn(&[u8]) -> Vec<u8>,
+    kinds: &'static [Kind],
+    how: &'static str,
+}
+
+pub const LISTING: Printed = Printed { by_twin: book, kinds: &LISTED, how: "listed" };
+pub const EXPORT: Printed = Printed { by_twin: exported, kinds: &EXPORTED, how: "exported" };
+
+/// The export, and for an oversized book the line X,0,1.
+fn exported(book: &[u8]) -> Vec<u8> {
+    sheet::export(book).unwrap_or_else(|refusal| {
+        let mut said = Vec::new();
+        push_line(&mut said, b'X', &[0, u64::from(refusal.number())]);
+        said
+    })
+}
+
+pub fn compare(program: &str, printed_for: &Printed, books: u64, seed: u64) -> Result<String, String> {
     let mut random = Random::new(seed);
-    let mut kinds = Kinds::default();
+    let mut kinds = Kinds::new(printed_for.kinds);
     for number in 1..=books {
         let text = a_book(&mut random);
         kinds.count(&text);
         let printed = run(program, &text).map_err(|problem| format!("{program}: {problem}"))?;
-        let expected = book(&text);
+        let expected = (printed_for.by_twin)(&text);
         if printed != expected {
             let (text, printed, expected) = (text.escape_ascii(), printed.escape_ascii(), expected.escape_ascii());
             return Err(format!(
@@ -29,7 +50,7 @@ pub fn compare(program: &str, books: u64, seed: u64) -> Result<String, String> {
     if books >= ENOUGH_FOR_EVERY_KIND && !kinds.missing().is_empty() {
         return Err(format!("{kinds}\nno book came of the kind: {}", kinds.missing().join(", ")));
     }
-    Ok(format!("{program}: {books} books listed alike, seed {seed}\n{kinds}"))
+    Ok(format!("{program}: {books} books {} alike, seed {seed}\n{kinds}", printed_for.how))
 }
 
 /// How many lines `book` lists at a time.

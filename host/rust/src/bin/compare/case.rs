@@ -1,26 +1,31 @@
 //! One call, and what came of it.
 
-use carbon_twin::call::{account_line, foot, Calls};
+use carbon_twin::call::{account_line, foot, import_sheet, Calls};
+use carbon_twin::sheet;
 use std::fmt;
 
-#[derive(Debug, Clone, Copy, PartialEq, Eq)]
+#[derive(Debug, Clone, Copy, PartialEq, Eq, PartialOrd, Ord)]
 pub enum Asked {
     Line,
     Foot,
+    Import,
+    Export,
 }
 
-/// The table and the line of a foot are empty, and not handed in.
+/// What is not handed in is empty: the table and what is given of a foot, and the statement and the table of an export.
 #[derive(Debug, Clone, PartialEq, Eq)]
 pub struct Case {
     pub asked: Asked,
     pub statement: Vec<u8>,
     pub table: Vec<u8>,
-    pub line: Vec<u8>,
+    /// The line, the sheet or the book.
+    pub given: Vec<u8>,
     pub room: usize,
 }
 
-/// Room for any answer.
-pub const FULL_ROOM: usize = 9_400;
+/// Room for any statement, report, table and foot.
+const STATEMENT_ROOM: usize = 9_400;
+const HEADING_BYTES: usize = "\"area\",\"sub\",\"hectares\",\"type\",\"planted\"\r\n".len();
 const MARGIN: usize = 8;
 const FILLED: u8 = 0xA5;
 
@@ -32,20 +37,43 @@ pub struct Outcome {
 }
 
 impl Case {
+    fn of(asked: Asked, statement: Vec<u8>, table: Vec<u8>, given: Vec<u8>) -> Case {
+        let case = Case { asked, statement, table, given, room: 0 };
+        Case { room: case.full_room(), ..case }
+    }
+
+    /// Room for any answer. A row of an export has less than three bytes for each of its line, the end counted.
+    pub fn full_room(&self) -> usize {
+        match self.asked {
+            Asked::Line | Asked::Foot | Asked::Import => STATEMENT_ROOM,
+            Asked::Export => HEADING_BYTES + 3 * (self.given.len() + 1),
+        }
+    }
+
     pub fn line(statement: Vec<u8>, table: Vec<u8>, line: Vec<u8>) -> Case {
-        Case { asked: Asked::Line, statement, table, line, room: FULL_ROOM }
+        Case::of(Asked::Line, statement, table, line)
     }
 
     pub fn foot(statement: Vec<u8>) -> Case {
-        Case { asked: Asked::Foot, statement, table: Vec::new(), line: Vec::new(), room: FULL_ROOM }
+        Case::of(Asked::Foot, statement, Vec::new(), Vec::new())
+    }
+
+    pub fn import(statement: Vec<u8>, table: Vec<u8>, sheet: Vec<u8>) -> Case {
+        Case::of(Asked::Import, statement, table, sheet)
+    }
+
+    pub fn export(book: Vec<u8>) -> Case {
+        Case::of(Asked::Export, Vec::new(), Vec::new(), book)
     }
 
     pub fn run(&self, calls: Calls) -> Outcome {
         let mut memory = vec![FILLED; self.room + 2 * MARGIN];
         let out = &mut memory[MARGIN..MARGIN + self.room];
         let answer = match self.asked {
-            Asked::Line => (calls.line)(&self.statement, &self.table, &self.line, out),
+            Asked::Line => (calls.line)(&self.statement, &self.table, &self.given, out),
             Asked::Foot => (calls.foot)(&self.statement, out),
+            Asked::Import => (calls.import)(&self.statement, &self.table, &self.given, out),
+            Asked::Export => (calls.export)(&self.given, out),
         };
         Outcome { answer, memory }
     }
@@ -53,14 +81,17 @@ impl Case {
     /// The bytes that are to be written, 0 where the case is refused.
     pub fn need(&self) -> usize {
         let written = match self.asked {
-            Asked::Line => account_line(&self.statement, &self.table, &self.line),
+            Asked::Line => account_line(&self.statement, &self.table, &self.given),
             Asked::Foot => foot(&self.statement),
+            Asked::Import => import_sheet(&self.statement, &self.table, &self.given),
+            Asked::Export => sheet::export(&self.given),
         };
         written.map_or(0, |out| out.len())
     }
 
+    /// A line's letter.
     pub fn letter(&self) -> char {
-        self.line.first().map_or(' ', |&byte| char::from(byte))
+        self.given.first().map_or(' ', |&byte| char::from(byte))
     }
 }
 
@@ -79,13 +110,18 @@ impl Outcome {
 
 impl fmt::Display for Case {
     fn fmt(&self, f: &mut fmt::Formatter<'_>) -> fmt::Result {
-        writeln!(f, "  statement \"{}\"", self.statement.escape_ascii())?;
+        let (statement, given) = (self.statement.escape_ascii(), self.given.escape_ascii());
+        if self.asked != Asked::Export {
+            writeln!(f, "  statement \"{statement}\"")?;
+        }
+        if let Asked::Line | Asked::Import = self.asked {
+            writeln!(f, "  table     {:?}", self.table)?;
+        }
         match self.asked {
-            Asked::Line => {
-                writeln!(f, "  table     {:?}", self.table)?;
-                writeln!(f, "  line      \"{}\"", self.line.escape_ascii())?;
-            }
+            Asked::Line => writeln!(f, "  line      \"{given}\"")?,
             Asked::Foot => writeln!(f, "  asked     the foot")?,
+            Asked::Import => writeln!(f, "  sheet     \"{given}\"")?,
+            Asked::Export => writeln!(f, "  book      \"{given}\"")?,
         }
         write!(f, "  room      {}", self.room)
     }

@@ -1,11 +1,13 @@
-//! The cases of a run: books taken line by line, holdings made up at the edges, and each of them damaged.
+//! The cases of a run: books taken line by line, holdings made up at the edges, sheets onto both, the sheets of books, and
+//! each of them damaged.
 
 use crate::case::Case;
 use crate::lines::{line, mood, Mood};
 use crate::random::Random;
-use crate::{damage, holdings, tables};
+use crate::{damage, holdings, sheets, tables};
 use carbon_twin::call::account_line;
 use carbon_twin::holding::Holding;
+use carbon_twin::ranges::BOOK_BYTES;
 use carbon_twin::statement;
 
 pub struct Cases {
@@ -13,11 +15,12 @@ pub struct Cases {
     book: Book,
 }
 
-/// A book that is being taken: what the recorder keeps, and how many lines are still to come.
+/// A book that is being taken: what the recorder keeps, the lines so far, and how many are still to come.
 struct Book {
     mood: Mood,
     holding: Holding,
     table: Vec<u8>,
+    text: Vec<u8>,
     lines_left: usize,
 }
 
@@ -25,7 +28,7 @@ impl Book {
     fn new(random: &mut Random) -> Book {
         let table = if random.one_in(2) { Vec::new() } else { tables::table(random) };
         let holding = if random.one_in(4) { holdings::holding(random) } else { Holding::default() };
-        Book { mood: mood(random), holding, table, lines_left: 10 + random.below(200) }
+        Book { mood: mood(random), holding, table, text: Vec::new(), lines_left: 10 + random.below(200) }
     }
 }
 
@@ -40,23 +43,52 @@ impl Cases {
     pub fn of_one_book(seed: u64, lines: usize) -> Cases {
         let mut random = Random::new(seed);
         let mood = mood(&mut random);
-        let book = Book { mood, holding: Holding::default(), table: Vec::new(), lines_left: lines };
+        let (holding, table, text) = (Holding::default(), Vec::new(), Vec::new());
+        let book = Book { mood, holding, table, text, lines_left: lines };
         Cases { random, book }
     }
 
+    /// Of 32 cases, four a foot, four an import and one an export.
     pub fn next(&mut self) -> Case {
         let case = if self.random.one_in(4) { self.made_up() } else { self.next_of_book() };
-        if self.random.one_in(8) {
-            self.foot_of(case.statement)
-        } else {
-            self.changed(case)
+        match self.random.below(32) {
+            0..=3 => self.foot_of(case.statement),
+            4..=7 => self.import_onto(case),
+            8 => self.export(),
+            _ => self.changed(case),
         }
     }
 
-    /// The line with something damaged, with another room, or as it is.
+    /// A sheet in the line's place.
+    fn import_onto(&mut self, case: Case) -> Case {
+        let holding = statement::read(&case.statement).expect("what is written is read");
+        let mut sheet = sheets::sheet(&mut self.random, &holding);
+        if self.random.one_in(8) {
+            sheet = damage::damaged(&mut self.random, &sheet);
+        }
+        self.changed(Case::import(case.statement, case.table, sheet))
+    }
+
+    /// The sheet of the book so far, damaged or grown to the greatest length of a book, with any room.
+    fn export(&mut self) -> Case {
+        let mut book = self.book.text.clone();
+        match self.random.below(16) {
+            0..=3 => book = damage::damaged(&mut self.random, &book),
+            4 => book.resize(BOOK_BYTES, b'\n'),
+            5 => book.resize(BOOK_BYTES + 1, b'\n'),
+            _ => {}
+        }
+        let mut case = Case::export(book);
+        if self.random.one_in(4) {
+            case.room = self.room(&case);
+        }
+        case
+    }
+
+    /// The line or the sheet with something damaged, with another room, or as it is.
     fn changed(&mut self, mut case: Case) -> Case {
         match self.random.below(8) {
-            0 => case.line = damage::damaged(&mut self.random, &case.line),
+            0 => case.given = damage::damaged(&mut self.random, &case.given),
             1 => case.statement = damage::damaged(&mut self.random, &case.statement),
             2 if self.random.one_in(3) => case.table = tables::damaged(&mut self.random, &case.table),
             3 if self.random.one_in(3) => case.statement = self.junk(),
@@ -81,7 +113,7 @@ impl Cases {
 
     /// The next line of a book that is taken from its start, at times damaged.
     pub fn next_line(&mut self) -> Vec<u8> {
-        let line = self.next_of_book().line;
+        let line = self.next_of_book().given;
         if self.random.one_in(8) {
             damage::damaged(&mut self.random, &line)
         } else {
@@ -97,9 +129,11 @@ impl Cases {
         let book = &mut self.book;
         book.lines_left -= 1;
         let line = line(&mut self.random, &book.mood, &book.holding);
+        book.text.extend(line.strip_suffix(b"\n").unwrap_or(&line));
+        book.text.push(b'\n');
         let statement = statement::write(&book.holding);
         let case = Case::line(statement, book.table.clone(), line);
-        match account_line(&case.statement, &case.table, &case.line) {
+        match account_line(&case.statement, &case.table, &case.given) {
             Ok(longer) if case.letter() == 'T' => book.table = longer,
             Ok(out) => book.holding = statement::read(statement_part(&case, &out)).expect("what is written is read"),
             Err(_) => {}

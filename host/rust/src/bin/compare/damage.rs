@@ -1,8 +1,11 @@
-//! Every kind of damage to a line or a statement.
+//! Every kind of damage to a line, a sheet, a book or a statement.
 
 use crate::random::Random;
 
-const BYTES: &[u8] = b",\n\r.0123456789+- \0\x09\x0b:/TASCPRWHBDNGXtasb\x80\xff";
+pub const BYTES: &[u8] = b",\n\r\".0123456789+- \0\x09\x0b:/TASCPRWHBDNGXtasb\x80\xff";
+
+/// What quotes a field or ends a row.
+const MARKS: [&[u8]; 7] = [b"\"", b"\"\"", b"\"\"\"", b"\r\n", b"\r", b"\n", b"\",\""];
 
 pub fn damaged(random: &mut Random, text: &[u8]) -> Vec<u8> {
     let mut text = text.to_vec();
@@ -16,7 +19,7 @@ pub fn damaged(random: &mut Random, text: &[u8]) -> Vec<u8> {
 
 fn damage_once(random: &mut Random, text: &mut Vec<u8>) {
     let place = random.below(text.len() + 1);
-    match random.below(12) {
+    match random.below(13) {
         0..=3 => nudge_number(random, text),
         4 if place < text.len() => text[place] = *random.pick(BYTES),
         5 => text.insert(place, *random.pick(BYTES)),
@@ -25,6 +28,7 @@ fn damage_once(random: &mut Random, text: &mut Vec<u8>) {
         8 => move_line(random, text),
         9 => change_field(random, text),
         10 => text.push(*random.pick(BYTES)),
+        11 => text.splice(place..place, random.pick::<&[u8]>(&MARKS).to_vec()).for_each(drop),
         _ => repeat_part(random, text),
     }
 }

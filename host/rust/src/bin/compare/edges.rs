@@ -1,6 +1,8 @@
-//! Small statements, alone for their foot and with lines, each field in turn at every value where a rule changes.
+//! Small statements, alone for their foot and with lines, each field in turn at every value where a rule changes; and small
+//! sheets and books, each byte in turn changed, taken out, doubled, and the last.
 
 use crate::case::Case;
+use crate::damage::BYTES;
 
 const STATEMENTS: [&str; 4] = [
     "H,0\n",
@@ -22,6 +24,19 @@ const LINES: [&str; 10] = [
     "W,8",
 ];
 
+/// Onto the second and the last statement.
+const SHEETS: [&str; 4] = [
+    "area,sub,hectares,type,planted\r\n8,2,10.04,D,2008\r\n8,1,1,B,0",
+    "\"area\",\"sub\",\"hectares\",\"type\",\"planted\"\r\n\"7\",\"2\",\"1.5\",\"P1\",\"2010\"\r\n",
+    "area,\"sub\",hectares,type,planted\r\n8,1,\"1\"\"\",B,\"0\r\n,\"\r\n",
+    "area,sub,hectares,type,planted\r\n7,2,1,D,2010\r\n\"7\",3,1,B,\"0\"\r\n7,2,2,D,2009\r\n",
+];
+
+const BOOKS: [&str; 2] = [
+    "A,7,2010\nS,7,1,10.04,D,2008\nW,7\nS,7,2,1,B,0\n",
+    "T,G,D,1\nS,8,1,1,B,0\nA,8,2010\nS,8,1,1.50,P1,2010\nS,8,1,1,B,0\nR,8,2010\nS,8,2,1,B,0",
+];
+
 /// Parted by blanks; the first is the empty field.
 const VALUES: &str = concat!(
     " 0 00 01 1 +1 -1 1. .5 0.5 0.9999 0.99999 1.0 1.05 1.25 2 3 4 5 7 8 9 10 15 16 17 54 55 56 98 99 100",
@@ -35,7 +50,32 @@ pub fn cases() -> impl Iterator<Item = Case> {
     let lines =
         STATEMENTS.into_iter().flat_map(|statement| LINES.into_iter().flat_map(move |line| around(statement, line)));
     let feet = STATEMENTS.into_iter().flat_map(variants).map(|statement| Case::foot(statement.into_bytes()));
-    lines.chain(feet)
+    lines.chain(feet).chain(imports()).chain(exports())
+}
+
+fn imports() -> impl Iterator<Item = Case> {
+    let onto = |statement: &'static str| {
+        let sheets = SHEETS.into_iter().flat_map(damaged_everywhere);
+        sheets.map(|sheet| Case::import(statement.as_bytes().to_vec(), Vec::new(), sheet))
+    };
+    onto(STATEMENTS[1]).chain(onto(STATEMENTS[3]))
+}
+
+fn exports() -> impl Iterator<Item = Case> {
+    BOOKS.into_iter().flat_map(damaged_everywhere).map(Case::export)
+}
+
+/// The text as it is, and for each of its places: the byte changed to any that has a meaning and to some that have none,
+/// taken out and doubled, and the text cut.
+fn damaged_everywhere(text: &'static str) -> impl Iterator<Item = Vec<u8>> {
+    let text = text.as_bytes();
+    let at_each = (0..text.len()).flat_map(|place| {
+        let (before, after) = (&text[..place], &text[place + 1..]);
+        let changed = BYTES.iter().map(move |&value| [before, &[value], after].concat());
+        let doubled = [before, &[text[place]; 2], after].concat();
+        changed.chain([[before, after].concat(), doubled, before.to_vec()])
+    });
+    at_each.chain([text.to_vec()])
 }
 
 fn around(statement: &'static str, line: &'static str) -> impl Iterator<Item = Case> {

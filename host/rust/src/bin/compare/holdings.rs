@@ -3,6 +3,7 @@
 use crate::random::Random;
 use carbon_twin::forest::Forest;
 use carbon_twin::holding::{Area, Holding, Residue, Sub, Trees};
+use carbon_twin::ranges::MOST_SUBS;
 
 pub fn holding(random: &mut Random) -> Holding {
     let most = *random.pick(&[0, 1, 1, 2, 3, 16]);
@@ -48,7 +49,7 @@ fn area(random: &mut Random, number: u64, history: fn(&mut Random) -> Filed) -> 
     let latest_year = if random.one_in(3) { 0 } else { random.within(2008..=2199) };
     let withdrawn = random.one_in(6);
     let surrendered = if withdrawn { received } else { random.within(0..=received) };
-    let most = *random.pick(&[0, 1, 2, 3, 5, 16]);
+    let most = *random.pick(&[0, 1, 2, 3, 5, MOST_SUBS - 1, MOST_SUBS]);
     let numbers = distinct(random, most, 99);
     let subs: Vec<Sub> = numbers.into_iter().map(|number| sub(random, number, opening, latest_year)).collect();
     let stock = random.within(0..=60_000_000_000 * subs.len() as u64);

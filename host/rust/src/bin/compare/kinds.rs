@@ -1,4 +1,4 @@
-//! How many books of each kind came: what the foot adds up.
+//! How many books of each kind came: what the foot adds up, and what an export has rows of.
 
 use carbon_twin::holding::{Area, Holding};
 use carbon_twin::listing::{lines, Account};
@@ -8,34 +8,70 @@ use std::fmt;
 
 const OVERSIZED: &str = "oversized";
 
-/// By the holding that the book leads to.
-const KINDS: [(&str, fn(&Holding) -> bool); 4] = [
-    ("without areas", |holding| holding.areas.is_empty()),
-    ("several areas received", |holding| receivers(holding).count() > 1),
-    ("a standing and a withdrawn area received", |holding| {
-        receivers(holding).any(|area| area.withdrawn) && receivers(holding).any(|area| !area.withdrawn)
-    }),
-    ("a part surrendered", |holding| receivers(holding).any(|area| area.surrendered > 0 && area.balance() > 0)),
-];
-
-fn receivers(holding: &Holding) -> impl Iterator<Item = &Area> {
-    holding.areas.iter().filter(|area| area.received > 0)
+/// A book, and the holding that it leads to.
+pub struct Led<'a> {
+    book: &'a [u8],
+    holding: Holding,
 }
 
-#[derive(Debug, Default)]
+pub type Kind = (&'static str, fn(&Led) -> bool);
+
+pub const LISTED: [Kind; 4] = [
+    ("without areas", |led| led.holding.areas.is_empty()),
+    ("several areas received", |led| led.receivers().count() > 1),
+    ("a standing and a withdrawn area received", |led| {
+        led.receivers().any(|area| area.withdrawn) && led.receivers().any(|area| !area.withdrawn)
+    }),
+    ("a part surrendered", |led| led.receivers().any(|area| area.surrendered > 0 && area.balance() > 0)),
+];
+
+pub const EXPORTED: [Kind; 4] = [
+    ("without sub-areas", |led| led.mapped().next().is_none()),
+    ("sub-areas of several areas", |led| led.mapped().count() > 1),
+    ("sub-areas of a withdrawn area", |led| led.mapped().any(|area| area.withdrawn)),
+    ("a sub-area refused", |led| {
+        let entered = lines(led.book).filter(|line| line.starts_with(b"S,")).count();
+        entered > led.mapped().map(|area| area.subs.len()).sum()
+    }),
+];
+
+impl Led<'_> {
+    fn by(book: &[u8]) -> Led<'_> {
+        let mut account = Account::default();
+        for line in lines(book) {
+            account.enter(line).ok();
+        }
+        Led { book, holding: account.holding }
+    }
+
+    fn receivers(&self) -> impl Iterator<Item = &Area> {
+        self.holding.areas.iter().filter(|area| area.received > 0)
+    }
+
+    fn mapped(&self) -> impl Iterator<Item = &Area> {
+        self.holding.areas.iter().filter(|area| !area.subs.is_empty())
+    }
+}
+
+#[derive(Debug)]
 pub struct Kinds {
+    kinds: &'static [Kind],
     came: BTreeMap<&'static str, u64>,
 }
 
 impl Kinds {
+    pub fn new(kinds: &'static [Kind]) -> Kinds {
+        Kinds { kinds, came: BTreeMap::new() }
+    }
+
     pub fn count(&mut self, book: &[u8]) {
         if book.len() > BOOK_BYTES {
             self.add(OVERSIZED);
             return;
         }
-        let holding = led_to(book);
-        for (kind, is_such) in KINDS {
-            if is_such(&holding) {
+        let led = Led::by(book);
+        for (kind, is_such) in self.kinds {
+            if is_such(&led) {
                 self.add(kind);
             }
         }
@@ -47,17 +83,9 @@ impl Kinds {
 
     /// The kinds that never came.
     pub fn missing(&self) -> Vec<&'static str> {
-        let kinds = KINDS.iter().map(|&(kind, _)| kind).chain([OVERSIZED]);
+        let kinds = self.kinds.iter().map(|&(kind, _)| kind).chain([OVERSIZED]);
         kinds.filter(|kind| !self.came.contains_key(kind)).collect()
     }
-}
-
-fn led_to(book: &[u8]) -> Holding {
-    let mut account = Account::default();
-    for line in lines(book) {
-        account.enter(line).ok();
-    }
-    account.holding
 }
 
 impl fmt::Display for Kinds {

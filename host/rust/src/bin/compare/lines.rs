@@ -70,10 +70,20 @@ fn area_number(random: &mut Random, holding: &Holding) -> u64 {
     }
 }
 
+/// The area, or one that stands for an area that is not there.
+fn area_of(number: u64, holding: &Holding) -> Area {
+    let unknown = Area { opening: 2010, open_year: 2010, ..Area::default() };
+    holding.areas.iter().find(|area| area.number == number).cloned().unwrap_or(unknown)
+}
+
+/// An S line that suits the area of this number.
+pub fn add_line_to(random: &mut Random, number: u64, holding: &Holding) -> String {
+    add_line(random, number, &area_of(number, holding))
+}
+
 fn area_line(random: &mut Random, letter: &str, holding: &Holding) -> String {
     let number = area_number(random, holding);
-    let unknown = Area { opening: 2010, open_year: 2010, ..Area::default() };
-    let area = holding.areas.iter().find(|area| area.number == number).unwrap_or(&unknown);
+    let area = &area_of(number, holding);
     let letter = if random.one_in(6) { letter } else { suiting(letter, area) };
     match letter {
         "S" => add_line(random, number, area),

@@ -3,6 +3,7 @@
 //!   compare [--calls N] [--seed N]      the engine against the twin; built with ENGINE_ARCHIVE
 //!   compare --with-itself ..            the twin against itself, which tries only the cases
 //!   compare --book PROGRAM [--books N]  a program's listings against the twin's
+//!   compare --sheet PROGRAM ..          a program's exports of books against the twin's
 //!
 //! A difference is printed as the smallest case found, and ends the run with 1.
 
@@ -16,13 +17,17 @@ mod kinds;
 mod lines;
 mod options;
 mod random;
+#[cfg(test)]
+mod sheet_tests;
+mod sheets;
 mod shrink;
 mod tables;
 mod tally;
 #[cfg(test)]
 mod tests;
 
-use carbon_twin::call::{engine_calls, Calls, TWIN};
+use carbon_twin::call::{Calls, TWIN};
+use carbon_twin::engine::engine_calls;
 use case::{Case, Outcome};
 use cases::Cases;
 use options::Options;
@@ -38,12 +43,14 @@ fn main() -> ExitCode {
         Ok(options) => options,
         Err(problem) => return failed(&problem),
     };
-    if let Some(program) = &options.book {
-        return match books::compare(program, options.books, options.seed) {
-            Ok(said) => passed(&said),
-            Err(problem) => failed(&problem),
-        };
+    let printed = [(&options.book, &books::LISTING), (&options.sheet, &books::EXPORT)];
+    match printed.iter().find_map(|(program, printed)| Some((program.as_ref()?, printed))) {
+        Some((program, printed)) => said(books::compare(program, printed, options.books, options.seed)),
+        None => compare_calls(&options),
     }
+}
+
+fn compare_calls(options: &Options) -> ExitCode {
     let (name, calls) = match (options.with_itself, engine_calls()) {
         (true, _) => ("the twin with itself", TWIN),
         (false, Some(engine)) => ("the engine with the twin", engine),
@@ -61,6 +68,13 @@ fn main() -> ExitCode {
             let (calls, seed, seconds) = (tally.calls(), options.seed, started.elapsed().as_secs_f64());
             passed(&format!("{name}: {calls} calls alike, seed {seed}, {seconds:.1} s\n{tally}"))
         }
+    }
+}
+
+fn said(compared: Result<String, String>) -> ExitCode {
+    match compared {
+        Ok(said) => passed(&said),
+        Err(problem) => failed(&problem),
     }
 }
 

@@ -6,12 +6,13 @@ pub struct Options {
     pub seed: u64,
     pub with_itself: bool,
     pub book: Option<String>,
+    pub sheet: Option<String>,
     pub books: u64,
 }
 
 impl Options {
     pub fn read(mut words: impl Iterator<Item = String>) -> Result<Options, String> {
-        let mut options = Options { calls: 200_000, seed: 1, with_itself: false, book: None, books: 500 };
+        let mut options = Options { calls: 200_000, seed: 1, with_itself: false, book: None, sheet: None, books: 500 };
         while let Some(word) = words.next() {
             match word.as_str() {
                 "--with-itself" => options.with_itself = true,
@@ -19,6 +20,7 @@ impl Options {
                 "--seed" => options.seed = number(&word, words.next())?,
                 "--books" => options.books = number(&word, words.next())?,
                 "--book" => options.book = Some(words.next().ok_or("--book wants a program")?),
+                "--sheet" => options.sheet = Some(words.next().ok_or("--sheet wants a program")?),
                 _ => return Err(format!("{word} is no option")),
             }
         }

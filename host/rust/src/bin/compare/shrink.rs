@@ -1,20 +1,24 @@
 //! The smallest case found that still fails: parts are taken away, and what is left made plain, as long as it fails.
 
-use crate::case::{Case, FULL_ROOM};
+use crate::case::Case;
 use carbon_twin::statement;
+
+/// What is tried has so many bytes in all, so that a long book or sheet ends too.
+const BYTES_TRIED: usize = 20_000_000;
 
 pub struct Shrinking<'a> {
     smallest: Case,
     fails: &'a dyn Fn(&Case) -> bool,
+    bytes_left: usize,
 }
 
 pub fn shrink(case: Case, fails: &dyn Fn(&Case) -> bool) -> Case {
-    let mut shrinking = Shrinking { smallest: case, fails };
+    let mut shrinking = Shrinking { smallest: case, fails, bytes_left: BYTES_TRIED };
     loop {
         let before = shrinking.smallest.clone();
-        shrinking.take(Case { room: FULL_ROOM, ..before.clone() });
+        shrinking.take(Case { room: before.full_room(), ..before.clone() });
         shrinking.fewer_areas();
-        for part in [Case::table_mut, Case::line_mut, Case::statement_mut] {
+        for part in [Case::table_mut, Case::given_mut, Case::statement_mut] {
             shrinking.fewer_bytes(part);
             shrinking.plainer_digits(part);
         }
@@ -31,8 +35,8 @@ impl Case {
         &mut self.table
     }
 
-    fn line_mut(&mut self) -> &mut Vec<u8> {
-        &mut self.line
+    fn given_mut(&mut self) -> &mut Vec<u8> {
+        &mut self.given
     }
 
     fn statement_mut(&mut self) -> &mut Vec<u8> {
@@ -43,8 +47,12 @@ impl Case {
 impl Shrinking<'_> {
     /// Keeps the case where it fails still, if need be with a room as near to what it needs.
     fn take(&mut self, smaller: Case) -> bool {
+        if self.bytes_left == 0 {
+            return false;
+        }
+        self.bytes_left = self.bytes_left.saturating_sub(smaller.statement.len() + smaller.given.len());
         let mut rooms = vec![smaller.room];
-        if smaller.room != FULL_ROOM {
+        if smaller.room != smaller.full_room() {
             let need = smaller.need();
             rooms.extend([need, need.saturating_sub(1), need + 1]);
         }

@@ -4,51 +4,66 @@ use crate::case::{Asked, Case};
 use std::collections::BTreeMap;
 use std::fmt;
 
-const GIVEN_BY_THE_CALL: [i64; 21] = [1, 2, 3, 4, 5, 6, 8, 11, 21, 22, 23, 24, 25, 26, 27, 28, 29, 30, 31, 32, 33];
 const TAKEN: [char; 7] = ['T', 'A', 'S', 'C', 'P', 'R', 'W'];
-const GIVEN_BY_THE_FOOT: [i64; 2] = [8, 11];
+
+/// What is asked, what is taken of it, and the numbers that it can be refused with.
+const ASKED: [(Asked, &str, &[i64]); 4] = [
+    (Asked::Line, "line", &[1, 2, 3, 4, 5, 6, 8, 11, 21, 22, 23, 24, 25, 26, 27, 28, 29, 30, 31, 32, 33]),
+    (Asked::Foot, "foot", &[8, 11]),
+    (Asked::Import, "import", &[1, 2, 3, 4, 5, 6, 8, 11, 22, 23, 25, 26, 27, 32, 41, 42]),
+    (Asked::Export, "export", &[1, 8]),
+];
 
 #[derive(Debug, Default)]
 pub struct Tally {
-    taken: BTreeMap<char, u64>,
-    refused: BTreeMap<i64, u64>,
-    feet_written: u64,
-    feet_refused: BTreeMap<i64, u64>,
+    letters: BTreeMap<char, u64>,
+    taken: BTreeMap<Asked, u64>,
+    refused: BTreeMap<(Asked, i64), u64>,
 }
 
 impl Tally {
     pub fn count(&mut self, case: &Case, answer: i64) {
-        let counted = match (case.asked, answer < 0) {
-            (Asked::Line, false) => self.taken.entry(case.letter()).or_default(),
-            (Asked::Line, true) => self.refused.entry(-answer).or_default(),
-            (Asked::Foot, false) => &mut self.feet_written,
-            (Asked::Foot, true) => self.feet_refused.entry(-answer).or_default(),
-        };
-        *counted += 1;
+        if answer < 0 {
+            *self.refused.entry((case.asked, -answer)).or_default() += 1;
+            return;
+        }
+        *self.taken.entry(case.asked).or_default() += 1;
+        if case.asked == Asked::Line {
+            *self.letters.entry(case.letter()).or_default() += 1;
+        }
     }
 
     pub fn calls(&self) -> u64 {
-        let lines = self.taken.values().chain(self.refused.values());
-        lines.chain(self.feet_refused.values()).sum::<u64>() + self.feet_written
+        self.taken.values().chain(self.refused.values()).sum()
     }
 
-    /// The letters and numbers that never came, and what never came of a foot.
+    /// The letters and numbers of a line that never came, and what never came of the other calls.
     pub fn missing(&self) -> Vec<String> {
-        let letters = TAKEN.iter().filter(|letter| !self.taken.contains_key(letter)).map(char::to_string);
-        let numbers = GIVEN_BY_THE_CALL.iter().filter(|number| !self.refused.contains_key(number)).map(i64::to_string);
-        let feet = GIVEN_BY_THE_FOOT.iter().filter(|number| !self.feet_refused.contains_key(number));
-        let written = (self.feet_written == 0).then(|| "a foot".to_string());
-        letters.chain(numbers).chain(written).chain(feet.map(|number| format!("a foot's {number}"))).collect()
+        let letters = TAKEN.iter().filter(|letter| !self.letters.contains_key(letter)).map(char::to_string);
+        let taken = ASKED.iter().filter(|(asked, ..)| !self.taken.contains_key(asked));
+        let taken = taken.map(|(_, name, _)| format!("{name} taken"));
+        let numbers = ASKED.iter().flat_map(|(asked, name, numbers)| {
+            let missing = numbers.iter().filter(|&&number| !self.refused.contains_key(&(*asked, number)));
+            missing.map(move |number| format!("{name} {number}"))
+        });
+        letters.chain(taken).chain(numbers).collect()
+    }
+
+    fn refused(&self, asked: Asked) -> String {
+        let numbers = self.refused.iter().filter(|((of, _), _)| *of == asked);
+        let numbers: Vec<String> = numbers.map(|((_, number), count)| format!("{number}: {count}")).collect();
+        numbers.join(", ")
     }
 }
 
 impl fmt::Display for Tally {
     fn fmt(&self, f: &mut fmt::Formatter<'_>) -> fmt::Result {
-        let pairs = |map: Vec<String>| map.join(", ");
-        let taken = self.taken.iter().map(|(letter, count)| format!("{letter} {count}")).collect();
-        let numbers =
-            |map: &BTreeMap<i64, u64>| pairs(map.iter().map(|(number, count)| format!("{number}: {count}")).collect());
-        write!(f, "taken: {}\nrefused: {}\n", pairs(taken), numbers(&self.refused))?;
-        write!(f, "feet written: {}; refused: {}", self.feet_written, numbers(&self.feet_refused))
+        let letters: Vec<String> = self.letters.iter().map(|(letter, count)| format!("{letter} {count}")).collect();
+        write!(f, "letters taken: {}", letters.join(", "))?;
+        for (asked, name, _) in ASKED {
+            let taken = self.taken.get(&asked).copied().unwrap_or_default();
+            write!(f, "\n{name}: taken {taken}; refused {}", self.refused(asked))?;
+        }
+        Ok(())
     }
 }

@@ -1,10 +1,10 @@
 //! That the comparison finds faults, and shrinks them.
 
 use crate::compare;
-use crate::kinds::Kinds;
+use crate::kinds::{Kind, Kinds, EXPORTED, LISTED};
 use crate::random::Random;
 use crate::tally::Tally;
-use carbon_twin::call::{twin, twin_foot, Call, Calls, FootCall, TWIN};
+use carbon_twin::call::{twin, twin_foot, CallOfOne, CallOfThree, Calls, TWIN};
 use carbon_twin::ranges::BOOK_BYTES;
 use carbon_twin::statement;
 
@@ -49,7 +49,7 @@ fn loses_the_balance(statement: &[u8], table: &[u8], line: &[u8], out: &mut [u8]
 
 #[test]
 fn every_fault_is_found_and_shrunk() {
-    let faults: [(&str, Call); 5] = [
+    let faults: [(&str, CallOfThree); 5] = [
         ("room", refuses_exact_room),
         ("past", touches_a_byte_past),
         ("refusal", touches_on_refusal),
@@ -61,12 +61,15 @@ fn every_fault_is_found_and_shrunk() {
     }
 }
 
-fn assert_found_and_shrunk(name: &str, fault: Calls) {
+pub fn assert_found_and_shrunk(name: &str, fault: Calls) {
     let Err(said) = compare(fault, TWIN, 20_000, 7) else {
         panic!("the fault '{name}' is not found");
     };
-    let statement = said.lines().find(|line| line.contains("statement \"")).expect("the case is printed");
-    assert!(statement.len() < 80, "the fault '{name}' is not shrunk: {said}");
+    let given = said
+        .lines()
+        .filter(|line| line.starts_with("  ") && !line.starts_with("  answers") && !line.starts_with("  twin"));
+    let longest = given.map(str::len).max().expect("the case is printed");
+    assert!(longest < 120, "the fault '{name}' is not shrunk: {said}");
 }
 
 fn foot_refuses_exact_room(statement: &[u8], out: &mut [u8]) -> i64 {
@@ -110,7 +113,7 @@ fn foot_passes_withdrawn_areas_over(statement: &[u8], out: &mut [u8]) -> i64 {
 
 #[test]
 fn every_fault_of_a_foot_is_found_and_shrunk() {
-    let faults: [(&str, FootCall); 5] = [
+    let faults: [(&str, CallOfOne); 5] = [
         ("room of a foot", foot_refuses_exact_room),
         ("past a foot", foot_touches_a_byte_past),
         ("refusal of a foot", foot_touches_on_refusal),
@@ -138,9 +141,28 @@ fn the_longest_foot_is_tried() {
 #[test]
 fn outcomes_that_never_came_are_named() {
     let nothing = Tally::default().missing();
-    for outcome in ["T", "33", "a foot", "a foot's 8", "a foot's 11"] {
+    for outcome in ["T", "line 33", "foot taken", "foot 8", "foot 11", "import taken", "import 42", "export 1"] {
         assert!(nothing.contains(&outcome.to_string()), "{outcome}");
     }
+}
+
+/// How many kinds are missing before the first book, and after each.
+fn missing_after_each(kinds: &'static [Kind], books: &[String]) -> Vec<usize> {
+    let mut came = Kinds::new(kinds);
+    let mut missing = vec![came.missing().len()];
+    for book in books {
+        came.count(book.as_bytes());
+        missing.push(came.missing().len());
+    }
+    missing
+}
+
+#[test]
+fn books_are_told_apart_by_what_their_export_has() {
+    let mapped = "A,1,2008\nS,1,1,1,B,0\n".to_string();
+    let two = mapped.clone() + "A,2,2008\nS,2,1,1,B,0\n";
+    let books = ["A,1,2008\n".into(), two, mapped.clone() + "W,1\n", mapped.repeat(2), "\n".repeat(BOOK_BYTES + 1)];
+    assert_eq!(missing_after_each(&EXPORTED, &books), [5, 4, 3, 2, 1, 0]);
 }
 
 #[test]
@@ -154,14 +176,7 @@ fn books_are_told_apart_by_what_their_foot_adds_up() {
         "T,G,D,0,30,20\nA,1,2010\nS,1,1,1,D,2010\nR,1,2010\nR,1,2011\n".to_string(),
         "\n".repeat(BOOK_BYTES + 1),
     ];
-    let missing_after: Vec<usize> = (0..=books.len())
-        .map(|count| {
-            let mut kinds = Kinds::default();
-            books[..count].iter().for_each(|book| kinds.count(book.as_bytes()));
-            kinds.missing().len()
-        })
-        .collect();
-    assert_eq!(missing_after, [5, 4, 3, 2, 1, 0]);
+    assert_eq!(missing_after_each(&LISTED, &books), [5, 4, 3, 2, 1, 0]);
 }
 
 /// The seeded cases alone find what the edges never meet.

@@ -1,0 +1,2 @@
+pub mod Import
+unfoldable pub use Import.{underVerdict, underBytes, importVerdict, importBytes, importWeighed, importAnswer, importOutput}

@@ -1,0 +1,4 @@
+pub mod Same
+pub mod Rows
+pub mod Heading
+pub mod Samples

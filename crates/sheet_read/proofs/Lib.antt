@@ -1,0 +1,4 @@
+pub mod Turns
+pub mod Samples
+pub mod Joining
+pub mod Joined

@@ -1,0 +1,2 @@
+pub mod Writing
+unfoldable pub use Writing.{doubled, quoted, rowText, sheetText, rowOf}

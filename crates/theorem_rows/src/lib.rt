@@ -1,0 +1,1 @@
+// Rows written and read again. No code.
