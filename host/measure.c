@@ -4,7 +4,8 @@
  *   measure HOLDING import:HOLDING TIMES  the same with a sheet that has the sub-areas of the second holding as its rows
  *   measure HOLDING export:HOLDING TIMES  the same with a book that has the lines of the second; the first plays no part
  *   measure length HOLDING                prints the length of its statement
- *   measure stack AREAS                   prints the deepest stack of calls on so many areas of sixteen sub-areas
+ *   measure stack CALL AREAS              prints the deepest stack of calls on so many areas of sixteen sub-areas; CALL is
+ *                                         line, which has the foot among its calls, import or export
  */
 #define _GNU_SOURCE
 #include <pthread.h>
@@ -18,7 +19,6 @@
 
 enum { STACK_BYTES = 1 << 20, PAINT = 0xA5, MOST_AREAS = 16, MOST_SUBS = 16 };
 
-static const char empty_holding[] = "H,0\n";
 static uint8_t statement[CARBON_OUT_BYTES] = "H,0\n";
 static size_t statement_len = 4;
 /* The line, the sheet or the book. */
@@ -31,7 +31,7 @@ typedef int64_t (*call_into)(size_t room);
 
 static int usage(void)
 {
-    fprintf(stderr, "measure HOLDING LINE|foot|import:HOLDING|export:HOLDING TIMES, measure length HOLDING, or measure stack AREAS\n");
+    fprintf(stderr, "measure HOLDING LINE|foot|import:HOLDING|export:HOLDING TIMES, measure length HOLDING, or measure stack line|import|export AREAS\n");
     return 2;
 }
 
@@ -174,18 +174,11 @@ static bool make_named(const char *name)
     return true;
 }
 
-/* Sheets and books, then from the empty holding T, A and S to fill it, the foot, and each other letter on its last area. */
-static void *deepest(void *areas)
+/* T on the empty holding, A and S to fill it, the foot, and each other letter on its last area. */
+static void *deepest_lines(void *areas)
 {
     static const char *const lines[] = {"C,%d,%d,2012", "P,%d,%d,D,2012", "R,%d,2014", "W,%d"};
     int last = *(const int *)areas;
-    make_holding(last, 0, take_measured);
-    give_sheet(last, MOST_SUBS);
-    call_measured(import_into, "import");
-    give_book(last, MOST_SUBS);
-    call_measured(export_into, "export");
-    statement_len = strlen(empty_holding);
-    memcpy(statement, empty_holding, statement_len);
     give_line("T,G,P,1");
     call_measured(line_into, "T");
     make_holding(last, MOST_SUBS, take_measured);
@@ -196,6 +189,18 @@ static void *deepest(void *areas)
         take_measured(line);
     }
     return NULL;
+}
+
+static void *measured_import(void *unused)
+{
+    call_measured(import_into, "import");
+    return unused;
+}
+
+static void *measured_export(void *unused)
+{
+    call_measured(export_into, "export");
+    return unused;
 }
 
 static void *idle(void *unused)
@@ -223,9 +228,20 @@ static size_t touched(void *(*run)(void *), void *argument)
 }
 
 /* What the calls take, less what a thread takes that makes none. */
-static int measure_stack(int areas)
+static int measure_stack(const char *of, int areas)
 {
-    printf("%zu\n", touched(deepest, &areas) - touched(idle, NULL));
+    void *(*run)(void *) = deepest_lines;
+    if (strcmp(of, "import") == 0) {
+        make_holding(areas, 0, take);
+        give_sheet(areas, MOST_SUBS);
+        run = measured_import;
+    } else if (strcmp(of, "export") == 0) {
+        give_book(areas, MOST_SUBS);
+        run = measured_export;
+    } else if (strcmp(of, "line") != 0) {
+        return usage();
+    }
+    printf("%zu\n", touched(run, &areas) - touched(idle, NULL));
     return 0;
 }
 
@@ -270,8 +286,8 @@ static int make_calls(const char *holding, const char *what, int times)
 
 int main(int argc, char **argv)
 {
-    if (argc == 3 && strcmp(argv[1], "stack") == 0)
-        return measure_stack(atoi(argv[2]));
+    if (argc == 4 && strcmp(argv[1], "stack") == 0)
+        return measure_stack(argv[2], atoi(argv[3]));
     if (argc == 3 && strcmp(argv[1], "length") == 0)
         return measure_length(argv[2]);
     return argc == 4 ? make_calls(argv[1], argv[2], atoi(argv[3])) : usage();

@@ -37,7 +37,8 @@ extern "C" {
  * carbon_foot writes CARBON_FOOT_BYTES at most: "F," and three numbers of 13 digits, each with the byte that ends it.
  * carbon_import_sheet writes a statement. A book has CARBON_BOOK_BYTES at most, and carbon_export_sheet writes
  * CARBON_EXPORT_BYTES at most: the heading, and less than three bytes for each byte of the book and for its last end.
- * The deepest stack that was measured of a call is 9784 bytes, and it does not grow with the areas. */
+ * The deepest stack that was measured is 8660 bytes of a line or a foot, 33624 of an import and 22712 of an export; it
+ * does not grow with the areas. */
 enum {
     CARBON_STATEMENT_BYTES = 11861,
     CARBON_TABLE_BYTES = 2040,

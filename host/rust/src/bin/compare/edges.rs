@@ -1,5 +1,5 @@
 //! Small statements, alone for their foot and with lines, each field in turn at every value where a rule changes; and small
-//! sheets and books, each byte in turn changed, taken out, doubled, and the last.
+//! sheets and books, each byte in turn changed, taken out, doubled and made the last; and sheets with every short end.
 
 use crate::case::Case;
 use crate::damage::BYTES;
@@ -32,6 +32,11 @@ const SHEETS: [&str; 4] = [
     "area,sub,hectares,type,planted\r\n7,2,1,D,2010\r\n\"7\",3,1,B,\"0\"\r\n7,2,2,D,2009\r\n",
 ];
 
+/// Where a row starts, and where its last field starts.
+const STARTS: [&str; 2] =
+    ["area,sub,hectares,type,planted\r\n", "area,sub,hectares,type,planted\r\n8,1,1,B,0\r\n8,2,1,B,"];
+const MARKS: &[u8; 5] = b"\",\r\n0";
+
 const BOOKS: [&str; 2] = [
     "A,7,2010\nS,7,1,10.04,D,2008\nW,7\nS,7,2,1,B,0\n",
     "T,G,D,1\nS,8,1,1,B,0\nA,8,2010\nS,8,1,1.50,P1,2010\nS,8,1,1,B,0\nR,8,2010\nS,8,2,1,B,0",
@@ -55,10 +60,21 @@ pub fn cases() -> impl Iterator<Item = Case> {
 
 fn imports() -> impl Iterator<Item = Case> {
     let onto = |statement: &'static str| {
-        let sheets = SHEETS.into_iter().flat_map(damaged_everywhere);
+        let ended = STARTS.into_iter().flat_map(|start| ends().map(|end| [start.as_bytes(), &end].concat()));
+        let sheets = SHEETS.into_iter().flat_map(damaged_everywhere).chain(ended);
         sheets.map(|sheet| Case::import(statement.as_bytes().to_vec(), Vec::new(), sheet))
     };
     onto(STATEMENTS[1]).chain(onto(STATEMENTS[3]))
+}
+
+/// Every text of up to five of the marks.
+fn ends() -> impl Iterator<Item = Vec<u8>> {
+    let of_length = |length: u32| (0..MARKS.len().pow(length)).map(move |number| end(number, length));
+    (0..=5).flat_map(of_length)
+}
+
+fn end(number: usize, length: u32) -> Vec<u8> {
+    (0..length).map(|place| MARKS[number / MARKS.len().pow(place) % MARKS.len()]).collect()
 }
 
 fn exports() -> impl Iterator<Item = Case> {
