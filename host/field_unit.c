@@ -98,7 +98,7 @@ static const char *in_words(int64_t refusal)
     case CARBON_AREA_WITHDRAWN: return "the area is withdrawn";
     case CARBON_AREAS_FULL: return "sixteen areas stand";
     case CARBON_SUB_USED: return "the sub-area's number is already used";
-    case CARBON_SUBS_FULL: return "sixteen sub-areas stand";
+    case CARBON_SUBS_FULL: return "forty-eight sub-areas stand";
     case CARBON_AREA_HAS_FILED: return "the area has filed a return and takes no more sub-areas";
     case CARBON_SUB_UNKNOWN: return "there is no such sub-area";
     case CARBON_CLEARING_BARE: return "there are no trees to clear";

@@ -8,12 +8,15 @@
 #include <string.h>
 #include <sys/mman.h>
 
-enum { PAGE = 4096, OUT_SIZE = 49 * PAGE, WATCHED = 2 * PAGE, FILLED = 0xA5 };
+enum { PAGE = 4096, WATCHED = 2 * PAGE, FILLED = 0xA5 };
 
 /* The inputs, of which the last is a line, a sheet or a book, and the output. */
 enum { STATEMENT, TABLE, GIVEN, OUT, REGIONS };
 
-static const size_t size_of[REGIONS] = {4 * PAGE, 4 * PAGE, 17 * PAGE, OUT_SIZE};
+#define WHOLE_PAGES(bytes) (((bytes) + PAGE - 1) / PAGE * PAGE)
+
+static const size_t size_of[REGIONS] = {WHOLE_PAGES(CARBON_STATEMENT_BYTES), WHOLE_PAGES(CARBON_TABLE_BYTES),
+                                        WHOLE_PAGES(CARBON_BOOK_BYTES + 1), WHOLE_PAGES(CARBON_EXPORT_BYTES)};
 static uint8_t *region[REGIONS];
 
 static void die(const char *what)
@@ -102,7 +105,7 @@ static struct answer seen(int64_t value, uint8_t *out, size_t room)
 /* The answer with its bytes apart, since the next call writes to the same pages. */
 static struct answer set_apart(struct answer answer)
 {
-    static uint8_t bytes[OUT_SIZE];
+    static uint8_t bytes[CARBON_EXPORT_BYTES];
     memcpy(bytes, answer.out, written(answer.value));
     return (struct answer){answer.value, bytes};
 }

@@ -1,11 +1,11 @@
-/* How much one call costs. A HOLDING is empty, small (1x4), full (16x16), or so many areas of so many sub-areas each: 4x16.
+/* How much one call costs. A HOLDING is empty, small (1x4), or so many areas of so many sub-areas each: 4x16.
  *   measure HOLDING LINE TIMES            makes the holding, then makes the call that many times; callgrind counts from outside
  *   measure HOLDING foot TIMES            the same with the call of the foot
  *   measure HOLDING import:HOLDING TIMES  the same with a sheet that has the sub-areas of the second holding as its rows
  *   measure HOLDING export:HOLDING TIMES  the same with a book that has the lines of the second; the first plays no part
  *   measure length HOLDING                prints the length of its statement
- *   measure stack CALL AREAS              prints the deepest stack of calls on so many areas of sixteen sub-areas; CALL is
- *                                         line, which has the foot among its calls, import or export
+ *   measure stack CALL AREASxSUBS         prints the deepest stack of calls on such a holding; CALL is line, which has the
+ *                                         foot among its calls, import or export
  */
 #define _GNU_SOURCE
 #include <pthread.h>
@@ -17,7 +17,12 @@
 
 #include "carbon_account.h"
 
-enum { STACK_BYTES = 1 << 20, PAINT = 0xA5, MOST_AREAS = 16, MOST_SUBS = 16 };
+enum { STACK_BYTES = 1 << 20, PAINT = 0xA5 };
+
+struct counts {
+    int areas;
+    int subs;
+};
 
 static uint8_t statement[CARBON_OUT_BYTES] = "H,0\n";
 static size_t statement_len = 4;
@@ -31,7 +36,8 @@ typedef int64_t (*call_into)(size_t room);
 
 static int usage(void)
 {
-    fprintf(stderr, "measure HOLDING LINE|foot|import:HOLDING|export:HOLDING TIMES, measure length HOLDING, or measure stack line|import|export AREAS\n");
+    fprintf(stderr, "measure HOLDING LINE|foot|import:HOLDING|export:HOLDING TIMES, measure length HOLDING, "
+                    "or measure stack line|import|export HOLDING\n");
     return 2;
 }
 
@@ -89,13 +95,17 @@ static size_t statement_part(size_t written)
     return out[end] == 'R' || out[end] == 'W' ? end : written;
 }
 
+static void keep(const char *what, int64_t written)
+{
+    want(what, written > 0, written);
+    statement_len = statement_part((size_t)written);
+    memcpy(statement, out, statement_len);
+}
+
 static void take(const char *line)
 {
     give_line(line);
-    int64_t written = line_into(CARBON_OUT_BYTES);
-    want(line, written > 0, written);
-    statement_len = statement_part((size_t)written);
-    memcpy(statement, out, statement_len);
+    keep(line, line_into(CARBON_OUT_BYTES));
 }
 
 /* It is refused where a byte of room is missing, and taken where none is. */
@@ -117,13 +127,13 @@ static void take_measured(const char *line)
 }
 
 /* The lines of a holding, each entered. */
-static void make_holding(int areas, int subs, void (*enter)(const char *line))
+static void make_holding(struct counts of, void (*enter)(const char *line))
 {
     char line[64];
-    for (int area = 1; area <= areas; area++) {
+    for (int area = 1; area <= of.areas; area++) {
         snprintf(line, sizeof line, "A,%d,2008\n", area);
         enter(line);
-        for (int sub = 1; sub <= subs; sub++) {
+        for (int sub = 1; sub <= of.subs; sub++) {
             snprintf(line, sizeof line, "S,%d,%d,1234.5678,P1,1990\n", area, sub);
             enter(line);
         }
@@ -140,52 +150,58 @@ static void give_row(const char *line)
     give("\r\n");
 }
 
-static void give_sheet(int areas, int subs)
+static void give_sheet(struct counts of)
 {
     give_line("area,sub,hectares,type,planted\r\n");
-    make_holding(areas, subs, give_row);
+    make_holding(of, give_row);
 }
 
-static void give_book(int areas, int subs)
+static void give_book(struct counts of)
 {
     give_line("");
-    make_holding(areas, subs, give);
+    make_holding(of, give);
 }
 
-static bool counts_of(const char *name, int *areas, int *subs)
+static bool counts_of(const char *name, struct counts *of)
 {
     char behind;
-    *areas = *subs = 0;
+    *of = (struct counts){0, 0};
     if (strcmp(name, "small") == 0)
-        *areas = 1, *subs = 4;
-    else if (strcmp(name, "full") == 0)
-        *areas = MOST_AREAS, *subs = MOST_SUBS;
-    else
-        return strcmp(name, "empty") == 0 || sscanf(name, "%dx%d%c", areas, subs, &behind) == 2;
+        *of = (struct counts){1, 4};
+    else if (strcmp(name, "empty") != 0)
+        return sscanf(name, "%dx%d%c", &of->areas, &of->subs, &behind) == 2;
     return true;
 }
 
+static void open_areas(int areas)
+{
+    make_holding((struct counts){areas, 0}, take);
+}
+
+/* The areas come by lines, and then their sub-areas by one sheet. */
 static bool make_named(const char *name)
 {
-    int areas, subs;
-    if (!counts_of(name, &areas, &subs))
+    struct counts of;
+    if (!counts_of(name, &of))
         return false;
-    make_holding(areas, subs, take);
+    open_areas(of.areas);
+    give_sheet(of);
+    keep("sheet", import_into(CARBON_OUT_BYTES));
     return true;
 }
 
 /* T on the empty holding, A and S to fill it, the foot, and each other letter on its last area. */
-static void *deepest_lines(void *areas)
+static void *deepest_lines(void *counts)
 {
     static const char *const lines[] = {"C,%d,%d,2012", "P,%d,%d,D,2012", "R,%d,2014", "W,%d"};
-    int last = *(const int *)areas;
+    struct counts of = *(const struct counts *)counts;
     give_line("T,G,P,1");
     call_measured(line_into, "T");
-    make_holding(last, MOST_SUBS, take_measured);
+    make_holding(of, take_measured);
     call_measured(foot_into, "foot");
     for (size_t i = 0; i < sizeof lines / sizeof *lines; i++) {
         char line[64];
-        snprintf(line, sizeof line, lines[i], last, MOST_SUBS);
+        snprintf(line, sizeof line, lines[i], of.areas, of.subs);
         take_measured(line);
     }
     return NULL;
@@ -228,20 +244,23 @@ static size_t touched(void *(*run)(void *), void *argument)
 }
 
 /* What the calls take, less what a thread takes that makes none. */
-static int measure_stack(const char *of, int areas)
+static int measure_stack(const char *call, const char *holding)
 {
+    struct counts of;
     void *(*run)(void *) = deepest_lines;
-    if (strcmp(of, "import") == 0) {
-        make_holding(areas, 0, take);
-        give_sheet(areas, MOST_SUBS);
+    if (!counts_of(holding, &of))
+        return usage();
+    if (strcmp(call, "import") == 0) {
+        open_areas(of.areas);
+        give_sheet(of);
         run = measured_import;
-    } else if (strcmp(of, "export") == 0) {
-        give_book(areas, MOST_SUBS);
+    } else if (strcmp(call, "export") == 0) {
+        give_book(of);
         run = measured_export;
-    } else if (strcmp(of, "line") != 0) {
+    } else if (strcmp(call, "line") != 0) {
         return usage();
     }
-    printf("%zu\n", touched(run, &areas) - touched(idle, NULL));
+    printf("%zu\n", touched(run, &of) - touched(idle, NULL));
     return 0;
 }
 
@@ -256,17 +275,17 @@ static int measure_length(const char *holding)
 /* The call that is asked, with what it is given; none where the words are not known. */
 static call_into asked(const char *what)
 {
-    int areas, subs;
+    struct counts of;
     if (strcmp(what, "foot") == 0)
         return foot_into;
     if (strncmp(what, "import:", 7) != 0 && strncmp(what, "export:", 7) != 0) {
         give_line(what);
         return line_into;
     }
-    if (!counts_of(what + 7, &areas, &subs))
+    if (!counts_of(what + 7, &of))
         return NULL;
     bool import = what[0] == 'i';
-    (import ? give_sheet : give_book)(areas, subs);
+    (import ? give_sheet : give_book)(of);
     return import ? import_into : export_into;
 }
 
@@ -287,7 +306,7 @@ static int make_calls(const char *holding, const char *what, int times)
 int main(int argc, char **argv)
 {
     if (argc == 4 && strcmp(argv[1], "stack") == 0)
-        return measure_stack(argv[2], atoi(argv[3]));
+        return measure_stack(argv[2], argv[3]);
     if (argc == 3 && strcmp(argv[1], "length") == 0)
         return measure_length(argv[2]);
     return argc == 4 ? make_calls(argv[1], argv[2], atoi(argv[3])) : usage();

@@ -1,9 +1,11 @@
 /* The calls against documents 01 and 02: the printed case line by line with the foot after each, every refusal that a
- * call can give, and the room of the output. Sheets are tried by test_sheet.c, damaged input by test_damage.c. */
+ * call can give, and the room of the output. Sheets are tried by test_sheet.c, areas of many sub-areas and 26 by
+ * test_sub_areas.c, damaged input by test_damage.c. */
 #include "carbon_account.h"
 #include "guarded.h"
 #include "test_damage.h"
 #include "test_sheet.h"
+#include "test_sub_areas.h"
 
 #include <stdbool.h>
 #include <stdio.h>
@@ -89,14 +91,13 @@ static void test_printed_case(void)
 #define FRESH "H,1\nA,7,2010,2010,0,0,0,0,0,0,1\nS,1,10,B,0,B,0,0\n"
 #define FILED "H,1\nA,7,2010,2011,2011,0,1,135000,55,0,2\nS,1,100,D,2011,D,3,2011\nS,2,10,B,0,B,0,0\n"
 #define WITHDRAWN "H,1\nA,7,2010,2011,0,1,1,0,5,5,0\n"
+#define RECEIVED(units) "H,1\nA,7,2010,2012,0,0,2,0," #units ",5,0\n"
+#define MOST_RECEIVED RECEIVED(6000000000)
+#define ONE_MORE_RECEIVED RECEIVED(6000000001)
 #define AREA(number) "A," #number ",2010,2010,0,0,0,0,0,0,0\n"
 #define SIXTEEN_AREAS                                                                                             \
     "H,16\n" AREA(1) AREA(2) AREA(3) AREA(4) AREA(5) AREA(6) AREA(7) AREA(8) AREA(9) AREA(10) AREA(11) AREA(12) \
         AREA(13) AREA(14) AREA(15) AREA(16)
-#define SUB(number) "S," #number ",10,B,0,B,0,0\n"
-#define SIXTEEN_SUBS                                                                                             \
-    "H,1\nA,7,2010,2010,0,0,0,0,0,0,16\n" SUB(1) SUB(2) SUB(3) SUB(4) SUB(5) SUB(6) SUB(7) SUB(8) SUB(9) SUB(10) \
-        SUB(11) SUB(12) SUB(13) SUB(14) SUB(15) SUB(16)
 
 static const struct {
     const char *statement;
@@ -117,13 +118,13 @@ static const struct {
     {FILED, "T,G,D,3000.1", CARBON_TABLE},
     {"H,0", "W,7", CARBON_STATEMENT},
     {"", "T,G,D,1", CARBON_STATEMENT},
+    {ONE_MORE_RECEIVED, "W,7", CARBON_STATEMENT},
     {FILED, "A,7,2010", CARBON_AREA_USED},
     {SIXTEEN_AREAS, "A,16,2010", CARBON_AREA_USED},
     {FILED, "W,8", CARBON_AREA_UNKNOWN},
     {WITHDRAWN, "R,7,2010", CARBON_AREA_WITHDRAWN},
     {SIXTEEN_AREAS, "A,17,2010", CARBON_AREAS_FULL},
     {FILED, "S,7,1,1,B,0", CARBON_SUB_USED},
-    {SIXTEEN_SUBS, "S,7,17,1,D,2011", CARBON_SUBS_FULL},
     {FILED, "S,7,3,1,D,2011", CARBON_AREA_HAS_FILED},
     {FILED, "C,7,3,2008", CARBON_SUB_UNKNOWN},
     {FILED, "C,7,2,2008", CARBON_CLEARING_BARE},
@@ -170,11 +171,11 @@ static void test_room(void)
     test_room_of(FILED, "P,7,2,N,2199\n");
     test_room_of(FILED, "R,7,2199\n");
     test_room_of(FILED, "W,7\n");
+    test_room_of(MOST_RECEIVED, "W,7\n");
     test_room_of("H,0\n", "T,R,N,3000\n");
-    test_room_of(SIXTEEN_SUBS, "W,7\n");
 }
 
-#define OLDEST_AREA(number) "A," #number ",2008,2200,0,0,192,0,192000000000,96000000000,0\n"
+#define OLDEST_AREA(number) "A," #number ",2008,2200,0,0,192,0,576000000000,288000000000,0\n"
 #define OLDEST_FOUR(first, second, third, fourth) \
     OLDEST_AREA(first) OLDEST_AREA(second) OLDEST_AREA(third) OLDEST_AREA(fourth)
 #define LONGEST_FOOT_OF                                                                                      \
@@ -193,12 +194,14 @@ static void test_foot(const char *statement, const char *foot)
 
 static void test_feet(void)
 {
-    static const char longest[] = "F,3072000000000,1536000000000,1536000000000\n";
-    static const char *const none[] = {"", "H,0", "H,0\n\n", "H,1\n", "H,1\nA,7,2010,2011,0,1,1,0,5,4,0\n", longest};
+    static const char longest[] = "F,9216000000000,4608000000000,4608000000000\n";
+    static const char *const none[] = {"", "H,0", "H,0\n\n", "H,1\n", "H,1\nA,7,2010,2011,0,1,1,0,5,4,0\n",
+                                       ONE_MORE_RECEIVED, longest};
     expect(strlen(longest) == CARBON_FOOT_BYTES, "the room for a foot is that of the longest");
     test_foot("H,0\n", "F,0,0,0\n");
     test_foot(FILED, "F,55,0,55\n");
     test_foot(ONE_WITHDRAWN, "F,35,15,20\n");
+    test_foot(MOST_RECEIVED, "F,6000000000,5,5999999995\n");
     test_foot(LONGEST_FOOT_OF, longest);
     for (size_t i = 0; i < sizeof none / sizeof none[0]; i++) {
         expect(guarded_foot(text(none[i]), CARBON_FOOT_BYTES).value == -CARBON_STATEMENT, "what is no statement has no foot");
@@ -226,6 +229,7 @@ int main(void)
     test_feet();
     test_long_lines();
     test_sheets();
+    test_sub_areas();
     test_damage();
     if (failures > 0) {
         printf("the calls: %d do not hold\n", failures);

@@ -14,6 +14,8 @@ import subprocess
 import sys
 import tempfile
 
+from header import MOST_AREAS, MOST_SUBS
+
 KILLED = 137
 UNWATCHED = 125
 NAMES = ["statement", "table"]
@@ -154,13 +156,13 @@ class Sheet:
         return next(stop for stop in itertools.count(1) if not self.check_killed(stop)) - 1
 
 
-def sixteen_areas():
-    return [f"A,{area},2008\n".encode() for area in range(1, 17)]
+def all_areas():
+    return [f"A,{area},2008\n".encode() for area in range(1, MOST_AREAS + 1)]
 
 
-def sixteen_sub_areas_each():
+def all_sub_areas():
     """With them, a statement of more bytes than one call writes."""
-    places = itertools.product(range(1, 17), range(1, 17))
+    places = itertools.product(range(1, MOST_AREAS + 1), range(1, MOST_SUBS + 1))
     return [f"{area},{sub},{10 + sub}.{area % 10},P{1 + sub % 9},{1960 + sub}".encode() for area, sub in places]
 
 
@@ -170,10 +172,10 @@ def main(program, killer):
         folder.mkdir()
         unit = Unit(str(pathlib.Path(program).resolve()), str(pathlib.Path(killer).resolve()), folder)
         stops = Case(unit, [], PRINTED_CASE.read_bytes().splitlines(keepends=True)).check()
-        rows = sixteen_sub_areas_each()
+        rows = all_sub_areas()
         lines = [b"S," + row + b"\n" for row in rows]
-        stops += Case(unit, sixteen_areas() + lines, [b"R,7,2010\n", b"W,16\n"]).check()
-        stops += Sheet(unit, sixteen_areas(), rows).check()
+        stops += Case(unit, all_areas() + lines, [b"R,7,2010\n", b"W,16\n"]).check()
+        stops += Sheet(unit, all_areas(), rows).check()
     print(f"the field unit was killed at {stops} stops and kept what it had answered")
 
 

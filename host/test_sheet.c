@@ -12,9 +12,6 @@
 #define OPENED "H,2\nA,7,2010,2010,0,0,0,0,0,0,0\nA,8,2012,2012,0,0,0,0,0,0,0\n"
 #define CLOSED "H,2\nA,7,2010,2011,0,0,1,0,5,0,0\nA,8,2010,2011,0,1,1,0,5,5,0\n"
 #define ROW(sub) "7," #sub ",1,B,0\r\n"
-#define SIXTEEN_ROWS                                                                                            \
-    ROW(1) ROW(2) ROW(3) ROW(4) ROW(5) ROW(6) ROW(7) ROW(8) ROW(9) ROW(10) ROW(11) ROW(12) ROW(13) ROW(14) ROW(15) \
-        ROW(16)
 
 static const struct bytes no_table = {(const uint8_t *)"", 0};
 static const struct bytes odd_table = {(const uint8_t *)"x", 1};
@@ -79,8 +76,6 @@ static const struct {
     {OPENED, HEADING ROW(1) "9,1,1,B,0\r\n0,0,0,0,0", CARBON_AREA_UNKNOWN},
     {CLOSED, HEADING "8,1,1,B,0", CARBON_AREA_WITHDRAWN},
     {OPENED, HEADING ROW(1) ROW(2) ROW(1), CARBON_SUB_USED},
-    {OPENED, HEADING SIXTEEN_ROWS ROW(17), CARBON_SUBS_FULL},
-    {OPENED, HEADING SIXTEEN_ROWS ROW(16), CARBON_SUB_USED},
     {CLOSED, HEADING "7,1,1,B,0", CARBON_AREA_HAS_FILED},
     {OPENED, HEADING "7,1,1,D,2011", CARBON_PLANTED_AFTER},
 };

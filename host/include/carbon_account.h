@@ -33,17 +33,20 @@ extern "C" {
 #endif
 
 /* Room for any statement, table, line with its end, and for all that a call writes: it is proved that none is longer.
- * carbon_account_line writes 11921 bytes at most, and into CARBON_OUT_BYTES it writes without measuring first.
+ * A holding has CARBON_MOST_AREAS areas at most, and each of them CARBON_MOST_SUBS sub-areas.
+ * carbon_account_line writes 32916 bytes at most, and into CARBON_OUT_BYTES it writes without measuring first.
  * carbon_foot writes CARBON_FOOT_BYTES at most: "F," and three numbers of 13 digits, each with the byte that ends it.
  * carbon_import_sheet writes a statement. A book has CARBON_BOOK_BYTES at most, and carbon_export_sheet writes
  * CARBON_EXPORT_BYTES at most: the heading, and less than three bytes for each byte of the book and for its last end.
- * The deepest stack that was measured is 8660 bytes of a line or a foot, 33624 of an import and 22712 of an export; it
- * does not grow with the areas. */
+ * The deepest stack that was measured is 10856 bytes of a line or a foot, 26872 of an import and 28328 of an export; it
+ * does not grow with the areas or their sub-areas. */
 enum {
-    CARBON_STATEMENT_BYTES = 11861,
+    CARBON_MOST_AREAS = 16,
+    CARBON_MOST_SUBS = 48,
+    CARBON_STATEMENT_BYTES = 32853,
     CARBON_TABLE_BYTES = 2040,
     CARBON_LINE_BYTES = 1025,
-    CARBON_OUT_BYTES = 15888,
+    CARBON_OUT_BYTES = 43024,
     CARBON_FOOT_BYTES = 44,
     CARBON_BOOK_BYTES = 65536,
     CARBON_EXPORT_BYTES = 196653
@@ -63,9 +66,9 @@ enum carbon_refusal {
     CARBON_AREA_USED = 21,        /* A: the area's number is already used */
     CARBON_AREA_UNKNOWN = 22,     /* there is no such area */
     CARBON_AREA_WITHDRAWN = 23,   /* the area is withdrawn */
-    CARBON_AREAS_FULL = 24,       /* A: sixteen areas stand */
+    CARBON_AREAS_FULL = 24,       /* A: CARBON_MOST_AREAS areas stand */
     CARBON_SUB_USED = 25,         /* S: the sub-area's number is already used */
-    CARBON_SUBS_FULL = 26,        /* S: sixteen sub-areas stand */
+    CARBON_SUBS_FULL = 26,        /* S: CARBON_MOST_SUBS sub-areas stand */
     CARBON_AREA_HAS_FILED = 27,   /* S: the area has filed a return */
     CARBON_SUB_UNKNOWN = 28,      /* C, P: there is no such sub-area */
     CARBON_CLEARING_BARE = 29,    /* C: the land is bare */

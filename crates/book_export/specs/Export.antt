@@ -9,7 +9,7 @@ use Rattle.sheet_judge.specs.{headingRow}
 use Rattle.sheet_write.specs.{sheetText, rowOf}
 
 -- whether an act adds a sub-area
-unfoldable pub adds : Act → Bool
+abbrev pub adds : Act → Bool
 adds (Act.Open opening) = false
 adds (Act.Add sub land forest year) = true
 adds (Act.Clear sub year) = false

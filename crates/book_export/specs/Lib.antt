@@ -1,3 +1,3 @@
 pub mod Export
-pub use Export.{isAddition, isExported, exportedFor, exportWeighed}
-unfoldable pub use Export.{adds, exportedRow, exportedFrom, exportRows, exportOf}
+pub use Export.{adds, isAddition, isExported, exportedFor, exportWeighed}
+unfoldable pub use Export.{exportedRow, exportedFrom, exportRows, exportOf}

@@ -4,7 +4,7 @@ use Rattle.laws.specs.{every, sumBy, allOf}
 use Rattle.laws.proofs.Tests.{AllTrue, all-true, true-all}
 use Rattle.holding.specs.{Area, Holding, mostAreas, areasOf}
 use Rattle.holding_look.specs.{balanceOf, unitsReceived, unitsSurrendered}
-use Rattle.statement_carried.specs.{fieldsCarried, areaCarried, carried}
+use Rattle.statement_carried.specs.{fieldsCarried, areaCarried, carried, carriedWithin}
 use Rattle.statement_carried.proofs.Bounds.{area-fields, bounds, mostUnits, units-few}
 use Rattle.theorem_keeping.specs.{Each}
 use Rattle.theorem_keeping.proofs.Lists.{each-at, sum-at-most, each-so, every-each, each-every}
@@ -17,7 +17,7 @@ overAll units holding = sumBy units (areasOf holding)
 -- ---- a holding that a statement carries, and the bound of a total
 
 pub carried-footed : (holding : Holding) → carried holding ≡ true → allCarried holding ≡ true
-unfolding carried allCarried AllTrue
+unfolding carriedWithin allCarried AllTrue
 carried-footed holding e =
     let t = all-true _ e in
     let each = each-so _ _ area-fields (areasOf holding) (every-each areaCarried (areasOf holding) (t .1 .0)) in

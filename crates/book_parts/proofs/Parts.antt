@@ -10,7 +10,7 @@ use Rattle.book_listing.proofs.Lines.{lines-at, lines-none}
 use Rattle.book_listing.proofs.Folding.{listing-lines}
 use Rattle.book_reached.specs.{Reached, runOf, nothingReached, mayRunFrom}
 use Rattle.book_reached.proofs.Bounds.{begun}
-use Rattle.book_run.specs.{Part, Print, linesFrom, RunOf}
+use Rattle.book_run.specs.{Part, linesFrom, RunOf}
 use Rattle.book_run.proofs.Runs.{all-lines}
 use Rattle.book_parts.specs.{partLines, closingAt, closingWidth, partFrom, partOf, ComesTo, Whole}
 
@@ -38,7 +38,7 @@ module _ (book : List ℕ) (next : ℕ) (reached : Reached) where
   lines = linesFrom book next
 
   -- a book that may run
-  module _ (h : mayRunFrom book next reached ≡ true) {out after : List ℕ} {part : Part} (ran : RunOf Print.Listing book next reached partLines out 0 after part) (room : partLines * reportWidth + closingWidth ≤ length out) where
+  module _ (h : mayRunFrom book next reached ≡ true) {out after : List ℕ} {part : Part} (ran : RunOf book next reached partLines out 0 after part) (room : partLines * reportWidth + closingWidth ≤ length out) where
     abbrev listed : List ℕ
     listed = printedFrom run (take partLines lines)
 
@@ -58,14 +58,14 @@ module _ (book : List ℕ) (next : ℕ) (reached : Reached) where
     part-more inside =
         let ended = part-is [] (closed-not _ book (part .next) _ (ran .left) inside) in
         whole (wrote-as (sym (append-nil listed) ∙ ended) (ran .wrote))
-        (omega (arith, ap length (sym (append-nil listed) ∙ ended), ran .wrote .place, ran .short refl))
+        (omega (arith, ap length (sym (append-nil listed) ∙ ended), ran .wrote .place, ran .short))
 
     pub part-last : length book ≤ part .next → {last : List ℕ} {count : ℕ} → Put closingWidth after (part .count) (closing (runOf (part .reached))) last count
         → Whole (partOf book next reached) out last count
     part-last over {last} {count} end =
         let ended = part-is (closing (runOf (part .reached))) (closed _ book (part .next) _ (ran .left) over ∙ ap (λ (r : Run). closing r) (sym (ran .run))) in
         whole (wrote-as ended (wrote-then (ran .wrote) (end .wrote)))
-        (omega (arith, ap length ended, length-append listed (closing (runOf (part .reached))), ran .wrote .place, ran .short refl, end .few))
+        (omega (arith, ap length ended, length-append listed (closing (runOf (part .reached))), ran .wrote .place, ran .short, end .few))
 
   -- one that may not
   module _ (h : mayRunFrom book next reached ≡ false) where

@@ -8,7 +8,7 @@ use Rattle.book_run.specs.{Part, linesFrom}
 
 -- how many lines a part lists at most
 abbrev pub partLines : ℕ
-partLines = 256
+partLines = 512
 
 -- the foot and E, where no line is left
 abbrev pub closingAt : Run → List (List ℕ) → List ℕ

@@ -9,11 +9,10 @@ ghost use Rattle.book_parts.specs.{closingWidth, partOf, Whole, ComesTo}
 use book_listing::LONGEST_BOOK;
 use book_reached::Reached;
 use book_run::Part;
-use book_run::Print;
 use refusals::Refusal;
 
 // How many lines a part lists at most, and room for what they print, for the foot and for E.
-pub const PART_LINES: usize = 256;
+pub const PART_LINES: usize = 512;
 
 pub const PART_ROOM: usize = PART_LINES * book_print::REPORT_WIDTH
     + book_print::FOOT_WIDTH
@@ -48,7 +47,7 @@ pub fn put_part(book: &[u8], next: usize, reached: Reached, out: &mut [u8; PART_
         reached.accepted,
         reached.refused,
     ) {
-        let part = book_run::put_lines(Print::Listing, book, next, reached, PART_LINES, out, 0);
+        let part = book_run::put_lines(book, next, reached, PART_LINES, out, 0);
         if part.next < book.len() {
             return part;
         }
@@ -76,7 +75,7 @@ pub fn put_listing(book: &[u8], out: &mut [u8]) -> usize
         return put_refused(out);
     }
     let nothing = book_reached::nothing_reached();
-    let all = book_run::put_lines(Print::Listing, book, 0, nothing, LONGEST_BOOK, out, 0);
+    let all = book_run::put_lines(book, 0, nothing, LONGEST_BOOK, out, 0);
     let last = all.reached;
     put_closing(out, all.count, last)
 }

@@ -1,5 +1,5 @@
--- What a step reports is short: an area that is kept has at most 192 returns, of at most 10^9 tonnes received each, and a return's change is at most
--- 960,000,000 tonnes.
+-- What a step reports is short: an area that is kept has a return for each of its years at most, each within its limit of tonnes received, and a
+-- return's change is at most `mostChange`.
 use Rattle.laws.proofs.{ℕ, _+_, _-_, _*_, _≤_, true, _≡_, refl, List, arith, not-false, length}
 use Rattle.book_room.specs.{returnWidth, withdrawalWidth}
 use Rattle.refusals.specs.{Verdict}
@@ -21,7 +21,7 @@ use Rattle.step_withdraw.specs.{withdrawCases, withdrawn}
 use Rattle.step.specs.{acted, applied}
 use Rattle.book_print.specs.{reportText}
 use Rattle.theorem_keeping.proofs.Within.{within, year-within}
-use Rattle.theorem_keeping.proofs.Stocks.{sizeOf, return-at-most}
+use Rattle.theorem_keeping.proofs.Stocks.{sizeOf, mostChange, return-at-most}
 use Rattle.theorem_keeping.proofs.Areas.{AreaKept, AreasKept}
 use Rattle.refusals.proofs.Laws.{ruled-out}
 use Rattle.theorem_keeping.proofs.Changes.{area-found}
@@ -54,7 +54,7 @@ module _ (area : Area) (k : AreaKept area) where
   unfolding returnOf filedArea
   returned-length own table last y =
       let change = changeOf own schedule6 area last in
-      let size : sizeOf change ≤ 960000000 = return-at-most own table area k last in
+      let size : sizeOf change ≤ mostChange = return-at-most own table area k last in
       let received : receivedOf change ≤ sizeOf change = received-within change in
       return-length _
       (omega (arith, within 1 (area .number) lastArea (k .fields .number)))

@@ -1,5 +1,5 @@
 -- How short a line of an entry that prints can be: R has three fields, of which the last is a year, and W has two.
-use Rattle.laws.proofs.Elements.{or-false-right}
+use Rattle.laws.proofs.Elements.{or-false-right, clash}
 use Rattle.laws.proofs.{ℕ, zero, suc, _+_, _-_, _*_, _/_, _≤_, _<_, Bool, true, false, cond, _≡_, refl, ap, List, [], _∷_, arith, eqb, eqb-true, not-false, length, getD, take, length-take}
 use Rattle.book_room.specs.{returnWidth, withdrawalWidth, mostForByte}
 use Rattle.text.specs.{digits, extend, split, fieldAt}
@@ -13,7 +13,6 @@ use Rattle.refusals.proofs.Laws.{RuledOut, ruled-out}
 use Rattle.line_entry.specs.{Act, Entry, Rule, parsed, misnamed, misformed, areaAndYear, openRule, addRule, clearRule, plantRule, fileRule, withdrawRule, Parsed}
 use Rattle.line_column.specs.{columnRule}
 use Rattle.line.specs.{bodyOf, noRule, ruleOf, lineRule, conditions, entryOf}
-use Rattle.theorem_keeping.proofs.Tests.{clash}
 
 -- a field stands in its line behind as many commas as its place says
 field-fits : (s : List ℕ) (k : ℕ) → k < length (split s) → length (fieldAt (split s) k) + k ≤ length s

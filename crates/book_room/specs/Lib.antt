@@ -1,2 +1,2 @@
 pub mod Room
-pub use Room.{returnWidth, withdrawalWidth, mostForByte, mostForEnd, roomForAny}
+pub use Room.{tonnesDigits, unitsDigits, returnWidth, withdrawalWidth, mostForByte, mostForEnd, roomForAny}

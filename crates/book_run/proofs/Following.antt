@@ -7,12 +7,12 @@ use Rattle.line.specs.{entryOf}
 use Rattle.holding.specs.{Area, Holding, Found, numbersIn}
 use Rattle.holding_look.specs.{Looked, areaAt}
 use Rattle.step_outcome.specs.{Outcome, placed}
-use Rattle.book_listing.specs.{parsedTaken, lineTaken, parsedTable, ifAccepted, tableAfter, Run, next}
+use Rattle.book_listing.specs.{parsedTaken, lineTaken, parsedTable, ifAccepted, tableAfter, Run, next, printedFor, printed}
 use Rattle.book_find.specs.{Named, namedBy}
 use Rattle.book_find.proofs.Naming.{lookedFor, looked-for}
 use Rattle.book_column.specs.{Fronts}
-use Rattle.book_run.specs.{parsedOutcome, Print, putFor}
-use Rattle.book_run.proofs.Printing.{putIn}
+use Rattle.book_export.specs.{exportedFor, exportedRow}
+use Rattle.book_run.specs.{parsedOutcome}
 use Rattle.book_run.proofs.Turns.{turn-taken}
 
 one-or-none : (v : Verdict) (a r : ℕ) → (a + ifAccepted v 1 0 ≡ ifAccepted v (a + 1) a) × (r + (1 - ifAccepted v 1 0) ≡ ifAccepted v r (r + 1))
@@ -33,10 +33,15 @@ module _ (run : Run) (areaNumbers : List ℕ) (i : areaNumbers ≡ numbersIn (ru
       ∙ turn-taken (run .own) (run .holding) areaNumbers i line parsed
       ∙ ap (parsedTaken (run .own) (run .holding) line) p
 
-  pub turn-puts : (print : Print) → putFor print (run .accepted + run .refused + 1) line parsed outcome ≡ putIn print run line
-  turn-puts print =
-      ap (putFor print (run .accepted + run .refused + 1) line parsed) outcome-is
-      ∙ ap (λ (x : Parsed). putFor print (run .accepted + run .refused + 1) line x (lineTaken (run .own) (run .holding) line)) p
+  pub turn-prints : printedFor (run .accepted + run .refused + 1) (outcome .verdict) outcome ≡ printed run line
+  unfolding printed
+  turn-prints = ap (λ (o : Outcome). printedFor (run .accepted + run .refused + 1) (o .verdict) o) outcome-is
+
+  pub turn-exports : exportedFor (outcome .verdict) parsed line ≡ exportedRow run line
+  unfolding exportedRow
+  turn-exports =
+      ap (λ (o : Outcome). exportedFor (o .verdict) parsed line) outcome-is
+      ∙ ap (λ (x : Parsed). exportedFor (lineTaken (run .own) (run .holding) line .verdict) x line) p
 
   pub turn-runs : (numbers : List ℕ) (count : ℕ) → Fronts numbers count (ifAccepted (outcome .verdict) (parsedTable (run .own) line parsed) (run .own))
       → (holding : Holding) (accepted refused taken : ℕ)

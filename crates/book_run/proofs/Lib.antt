@@ -1,4 +1,4 @@
 pub mod Turns
 pub mod Following
-pub mod Printing
 pub mod Runs
+pub mod Rows

@@ -1,11 +1,11 @@
 -- What is left where no line is run any more, and what is run by whether the book can have come so far.
-use Rattle.laws.proofs.{ℕ, _≤_, _<_, _≡_, sym, ap, subst, _∙_, Bool, true, false, _&&_, List, [], _⊎_, inl, inr, ⊎-elim, arith, ltb, ltb-true, ltb-false, lt-ltb, length, take, drop, take-all, drop-of-length-le}
+use Rattle.laws.proofs.{ℕ, _≤_, _<_, _≡_, sym, ap, subst, _∙_, Bool, true, false, _&&_, List, [], _∷_, _++_, _⊎_, inl, inr, ⊎-elim, arith, ltb, ltb-true, ltb-false, lt-ltb, length, take, drop, take-all, drop-of-length-le}
 use Rattle.laws.proofs.Lists.{and-left, and-right}
 use Rattle.laws.proofs.Order.{below-or-not}
-use Rattle.book_listing.specs.{linesOf, longestBook}
+use Rattle.book_listing.specs.{linesOf, Run, next, printed, printedFrom, longestBook}
 use Rattle.book_listing.proofs.Lines.{lines-none, lines-few}
 use Rattle.book_reached.specs.{Reached, mayRunFrom}
-use Rattle.book_run.specs.{Part, Print, linesFrom, RunOf, RunsIf}
+use Rattle.book_run.specs.{Part, linesFrom, RunOf, RunsIf}
 
 -- ---- the loop's two tests
 
@@ -41,18 +41,30 @@ module _ (book : List ℕ) (i left : ℕ) where
 pub all-lines : (book : List ℕ) → length book ≤ longestBook → take longestBook (linesFrom book 0) ≡ linesOf book
 all-lines book short = take-all longestBook (linesOf book) (omega (arith, lines-few book))
 
+-- ---- what a line prints, and those behind it
+
+module _ (run : Run) where
+  pub printed-line : (line : List ℕ) (rest lines : List (List ℕ)) (after : Run) → after ≡ next run line → line ∷ rest ≡ lines
+      → printed run line ++ printedFrom after rest ≡ printedFrom run lines
+  unfolding printedFrom
+  printed-line line rest lines after q e = ap (λ (r : Run). printed run line ++ printedFrom r rest) q ∙ ap (printedFrom run) e
+
+  pub printed-none : (lines : List (List ℕ)) → lines ≡ [] → [] ≡ printedFrom run lines
+  unfolding printedFrom
+  printed-none lines h = sym (ap (printedFrom run) h)
+
 -- ---- by whether the book can have come so far
 
-module _ (print : Print) (book : List ℕ) (next : ℕ) (reached : Reached) (most : ℕ) (out : List ℕ) (at : ℕ) (after : List ℕ) (part : Part) where
+module _ (book : List ℕ) (next : ℕ) (reached : Reached) (most : ℕ) (out : List ℕ) (at : ℕ) (after : List ℕ) (part : Part) where
   abbrev RunsBy : Bool → Type 0
-  RunsBy may = RunsIf may print book next reached most out at after part
+  RunsBy may = RunsIf may book next reached most out at after part
 
-  pub runs : mayRunFrom book next reached ≡ true → RunOf print book next reached most out at after part → RunsBy (mayRunFrom book next reached)
+  pub runs : mayRunFrom book next reached ≡ true → RunOf book next reached most out at after part → RunsBy (mayRunFrom book next reached)
   runs may ran = subst RunsBy (sym may) ran
 
   pub runs-not : mayRunFrom book next reached ≡ false → after ≡ out → part ≡ record { count = at; next = next; reached = reached }
       → RunsBy (mayRunFrom book next reached)
   runs-not may kept nothing = subst RunsBy (sym may) (kept, nothing)
 
-  pub run-of : mayRunFrom book next reached ≡ true → RunsBy (mayRunFrom book next reached) → RunOf print book next reached most out at after part
+  pub run-of : mayRunFrom book next reached ≡ true → RunsBy (mayRunFrom book next reached) → RunOf book next reached most out at after part
   run-of may by = subst RunsBy may by

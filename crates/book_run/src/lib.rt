@@ -1,10 +1,15 @@
-// Runs the lines of a book, on one holding and one table, and puts what each prints.
+// Runs the lines of a book, on one holding and one table, and puts what each prints, or the rows of its accepted S entries.
 ghost use mathlib.Core.Path.{_≡_};
 ghost use Prim.Native.Nat.{_≤_};
 ghost use lib.ListN.{length, take};
 ghost use Rattle.table.specs.{longestTable};
 ghost use Rattle.book_reached.specs.{mayRunFrom};
-ghost use Rattle.book_run.specs.{refusalIn, Turn, PutFor, RunsIf};
+ghost use Rattle.text.specs.{Wrote};
+ghost use Rattle.book_listing.specs.{start, linesRun};
+ghost use Rattle.sheet_write.specs.{sheetText};
+ghost use Rattle.book_export.specs.{exportedFor, exportedFrom};
+ghost use Rattle.book_run.specs.{refusalIn, Turn, RunsIf};
+use book_listing::LONGEST_BOOK;
 use book_reached::Reached;
 use holding::Found;
 use holding::MOST_AREAS;
@@ -12,6 +17,7 @@ use holding_look::Looked;
 use line_entry::Entry;
 use line_entry::Parsed;
 use refusals::Refusal;
+use refusals::Verdict;
 use step_outcome::Outcome;
 use table::LONGEST_TABLE;
 
@@ -53,34 +59,14 @@ fn take_line(
     }
 }
 
-// What is put for each line: its line of the listing, or the row of an accepted S entry and nothing for any other line.
-pub enum Print {
-    Listing,
-    Rows,
-}
-
-// Puts what is put for a line, by its number in the book, as it was read and by what it came to; the answer is the place after what was put.
-fn put_for(
-    print: Print,
-    out: &mut [u8],
-    at: usize,
-    number: u64,
-    line: &[u8],
-    parsed: Parsed,
-    outcome: Outcome,
-) -> usize
-    ensures { λ r. ⌜ PutFor print (now (out .entry)) at number (now (line .entry)) parsed outcome (now (out .exit)) r ⌝ }
+// Puts the row of a line, as it was read and by its verdict, where it is an accepted S entry; the answer is the place after what was put.
+fn put_row(out: &mut [u8], at: usize, line: &[u8], parsed: Parsed, verdict: Verdict) -> usize
+    ensures { λ r. ⌜ Wrote (now (out .entry)) at (sheetText (exportedFor verdict parsed (now (line .entry)))) (now (out .exit)) r ⌝ }
 {
-    match print {
-        Print::Listing => book_listing::put_line(out, at, number, outcome),
-        Print::Rows => {
-            let verdict = outcome.verdict;
-            if book_export::is_exported(parsed, verdict) {
-                return sheet_write::put_row(out, at, line);
-            }
-            at
-        }
+    if book_export::is_exported(parsed, verdict) {
+        return sheet_write::put_row(out, at, line);
     }
+    at
 }
 
 // What lines that are run come to: the place after what was put, the place in the book of the line that comes next, and what the lines before it have
@@ -91,10 +77,9 @@ pub struct Part {
     pub reached: Reached,
 }
 
-// Runs the lines of a book from a place on, so many at most, and puts what is put for each, from `at` on; where the book cannot have come so far, nothing
+// Runs the lines of a book from a place on, so many at most, and puts what each prints, from `at` on; where the book cannot have come so far, nothing
 // is run. The numbers of the areas are kept beside them, so that no line is given the holding.
 pub fn put_lines(
-    print: Print,
     book: &[u8],
     next: usize,
     reached: Reached,
@@ -102,7 +87,7 @@ pub fn put_lines(
     out: &mut [u8],
     at: usize,
 ) -> Part
-    ensures { λ r. ⌜ RunsIf (mayRunFrom (now (book .entry)) next reached) print (now (book .entry)) next reached most (now (out .entry)) at (now (out .exit)) r ⌝ }
+    ensures { λ r. ⌜ RunsIf (mayRunFrom (now (book .entry)) next reached) (now (book .entry)) next reached most (now (out .entry)) at (now (out .exit)) r ⌝ }
 {
     if !book_reached::may_run(
         book.len(),
@@ -118,6 +103,7 @@ pub fn put_lines(
         };
     }
     let default = schedules::schedule_six();
+    let none = holding::empty_area();
     let mut holding = reached.holding;
     let mut numbers = holding::numbers_of(holding);
     let mut table = reached.table;
@@ -132,7 +118,7 @@ pub fn put_lines(
         let parsed = line::parse(&book[i..end]);
         let names = book_find::find(&numbers, holding.count, parsed);
         let found = names.found;
-        let mut named = holding::empty_area();
+        let mut named = none;
         if let Found::At(k) = found {
             if k < MOST_AREAS {
                 named = holding.areas[k];
@@ -152,15 +138,7 @@ pub fn put_lines(
             &book[i..end],
             parsed,
         );
-        at = put_for(
-            print,
-            out,
-            at,
-            accepted + refused + 1,
-            &book[i..end],
-            parsed,
-            outcome,
-        );
+        at = book_listing::put_line(out, at, accepted + refused + 1, outcome);
         let verdict = outcome.verdict;
         let taken = book_listing::counted(verdict);
         accepted += taken;
@@ -189,4 +167,62 @@ pub fn put_lines(
         next: i,
         reached,
     }
+}
+
+// Puts the row of each accepted S entry of a book, from `at` on, and none where the book is too long; the answer is the place after them. The areas stand
+// here alone and are handed on one at a time, since a holding is most of what the stack takes.
+pub fn put_rows(book: &[u8], out: &mut [u8], at: usize) -> usize
+    ensures { λ r. ⌜ Wrote (now (out .entry)) at (sheetText (exportedFrom start (linesRun (now (book .entry))))) (now (out .exit)) r ⌝ }
+{
+    if LONGEST_BOOK < book.len() {
+        return at;
+    }
+    let default = schedules::schedule_six();
+    let none = holding::empty_area();
+    let mut areas = [none; MOST_AREAS];
+    let mut numbers = [0u16; MOST_AREAS];
+    let mut standing: usize = 0;
+    let mut table = [0u16; LONGEST_TABLE];
+    let mut count: usize = 0;
+    let mut at = at;
+    let mut i: usize = 0;
+    while i < book.len() {
+        let end = text::end_of(book, i, b'\n');
+        let parsed = line::parse(&book[i..end]);
+        let names = book_find::find(&numbers, standing, parsed);
+        let found = names.found;
+        let mut named = none;
+        if let Found::At(k) = found {
+            if k < MOST_AREAS {
+                named = areas[k];
+            }
+        }
+        let looked = Looked {
+            number: names.number,
+            count: standing,
+            found,
+            area: named,
+        };
+        let taken = take_line(
+            &mut table,
+            &mut count,
+            &default,
+            looked,
+            &book[i..end],
+            parsed,
+        );
+        let verdict = taken.verdict;
+        at = put_row(out, at, &book[i..end], parsed, verdict);
+        let place = taken.place;
+        if let Found::At(k) = place {
+            let area = taken.area;
+            if k < MOST_AREAS {
+                areas[k] = area;
+                numbers[k] = area.number;
+            }
+            standing = taken.count;
+        }
+        i = end + 1;
+    }
+    at
 }

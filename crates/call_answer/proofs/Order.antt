@@ -26,7 +26,7 @@ use Rattle.step.specs.{acted, applied}
 use Rattle.table_extend.specs.{begun, extensible}
 use Rattle.table_grow.specs.{lineCells, growable}
 use Rattle.table_grow.proofs.Growth.{column-grows}
-use Rattle.statement.specs.{acceptable, readIf, readOf}
+use Rattle.statement.specs.{acceptable, acceptableWithin, readIf, readOf, readWithin}
 use Rattle.statement_parse.specs.{holdingAt}
 use Rattle.book_listing.specs.{columnTaken, entryTaken, parsedTaken, lineTaken}
 use Rattle.call_answer.specs.{tableVerdict, callVerdict, entryBytes, callBytes}
@@ -72,7 +72,7 @@ read-by Verdict.Accepted holding = refl
 read-by (Verdict.Refused r) holding = refl
 
 pub read-from-eleven : (statement : List ℕ) → From 11 (readOf statement .verdict)
-unfolding readOf acceptable startsAt
+unfolding readWithin acceptableWithin startsAt
 read-from-eleven statement =
     rw (read-by (acceptable statement (holdingAt statement)) (holdingAt statement .holding)) (starts-from 11 _ refl)
 

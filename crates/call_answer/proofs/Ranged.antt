@@ -1,6 +1,6 @@
 -- What a line is read as is within the ranges of document 01's "Entries": the cases of its letter's rule, of which none applies, say so.
-use Rattle.laws.proofs.{ℕ, suc, _+_, _/_, _≤_, _≡_, refl, subst, Bool, true, false, _&&_, List, arith, le-leb, ltb-false, eq-eqb, leb, ltb}
-use Rattle.laws.proofs.Elements.{or-false-left, or-false-right}
+use Rattle.laws.proofs.{ℕ, suc, _+_, _/_, _≤_, _≡_, refl, subst, true, false, _&&_, List, arith, le-leb, ltb-false, eq-eqb, leb, ltb}
+use Rattle.laws.proofs.Elements.{or-false-left, or-false-right, clash}
 use Rattle.text.specs.{split}
 use Rattle.refusals.specs.{smallest}
 use Rattle.refusals.proofs.Laws.{RuledOut, ruled-out}
@@ -28,9 +28,6 @@ Ranged Act.Withdraw = Unit
 abbrev pub EntryRanged : Entry → Type 0
 EntryRanged (Entry.Column column) = Unit
 EntryRanged (Entry.On on) = (isArea (on .area) ≡ true) × Ranged (on .act)
-
-clash : {P : Type 0} → _≡_ {A = Bool} true false → P
-clash e = absurd (let z : _≡_ {A = ℕ} 0 1 = cc in omega arith)
 
 within : (low high : ℕ) (n : Number) → outside low high n ≡ false → (low ≤ valueOf n) × (valueOf n ≤ high)
 within low high (Number.Value n) e = (ltb-false n low (or-false-left _ (ltb high n) e), ltb-false high n (or-false-right (ltb n low) _ e))

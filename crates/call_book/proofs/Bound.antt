@@ -13,6 +13,7 @@ use Rattle.step_outcome.specs.{placed}
 use Rattle.step_outcome.proofs.Laws.{answered-clear}
 use Rattle.step.specs.{applied}
 use Rattle.statement_format.specs.{statementOf}
+use Rattle.statement_carried.specs.{limits}
 use Rattle.statement.specs.{readOf}
 use Rattle.table_grow.specs.{growable, longerBy}
 use Rattle.table_grow.proofs.Fits.{longer-fits}
@@ -63,7 +64,7 @@ pub call-few : (statement table line : List ℕ) → callVerdict statement table
 unfolding callBytes lineTaken
 call-few statement table line e =
     let parts = call-clear statement table line e in
-    parsed-few (numbersOf table) (readOf statement .holding) (table-is table (parts .1)) (read-kept statement (parts .2)) line (entryOf line) (parts .3)
+    parsed-few (numbersOf table) (readOf statement .holding) (table-is table (parts .1)) (read-kept limits statement (parts .2)) line (entryOf line) (parts .3)
 
 module _ (out : List ℕ) (room : mostWritten ≤ length out) where
   -- each line is taken by a call; the statement, the table and the output of one call go to the next: they print the listing's lines before the foot

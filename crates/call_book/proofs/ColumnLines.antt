@@ -1,12 +1,12 @@
 -- A line that is read as an entry is a T entry just when its first byte is T: its letter is its first byte, and only T's rule makes a column.
 use Rattle.laws.proofs.{ℕ, _-_, _<_, _≡_, refl, sym, ap, _∙_, Bool, true, false, cond, List, [], _∷_, arith, eqb, length, getD, take, length-take, getD-take}
+use Rattle.laws.proofs.Elements.{clash}
 use Rattle.text.specs.{split}
 use Rattle.refusals.specs.{smallest, Verdict}
 use Rattle.refusals.proofs.Laws.{ruled-out}
 use Rattle.line_entry.specs.{Entry, Parsed}
 use Rattle.line.specs.{bodyOf, letterOf, noRule, ruleOf, lineRule, conditions, entryOf}
 use Rattle.line.proofs.Columns.{taken-by, isColumn, column-rule}
-use Rattle.theorem_keeping.proofs.Tests.{clash}
 use Rattle.call_book.specs.{isColumnLine}
 
 -- what has no letter is refused

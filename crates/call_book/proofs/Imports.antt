@@ -8,15 +8,16 @@ use Rattle.table_bytes.specs.{numbersOf}
 use Rattle.holding.specs.{Holding}
 use Rattle.step_outcome.specs.{placed}
 use Rattle.statement_format.specs.{carriedWidth}
+use Rattle.statement_carried.specs.{limits}
 use Rattle.statement.specs.{readOf}
 use Rattle.theorem_keeping.specs.{Kept}
 use Rattle.theorem_round_trips.proofs.Trips.{read-kept}
 use Rattle.book_room.proofs.Runs.{line-keeps}
 use Rattle.sheet_read.specs.{Row}
 use Rattle.sheet_judge.specs.{sheetVerdict}
-use Rattle.sheet_import.specs.{Imported, rowLine, rowTaken, sheetRows, importedIf, importRows, importOnto}
+use Rattle.sheet_import.specs.{Imported, rowLine, rowTaken, sheetRows, importedIf, importRows, importOnto, ontoBytes}
 use Rattle.call_answer.specs.{tableVerdict}
-use Rattle.call_import.specs.{underBytes, importVerdict, importBytes}
+use Rattle.call_import.specs.{weighedUnder, importVerdict, importBytes}
 use Rattle.call_book.proofs.Lengths.{statement-few}
 use Rattle.call_book.proofs.Bound.{table-is}
 
@@ -38,7 +39,7 @@ module _ (own : List ℕ) (isOwn : isTable own ≡ true) (given : Holding) (kept
   import-keeps sheet = either-kept (sheetVerdict sheet) (importRows own given given (sheetRows sheet)) (rows-keep given kept (sheetRows sheet))
 
 pub import-few : (statement table sheet : List ℕ) → importVerdict statement table sheet ≡ Verdict.Accepted → length (importBytes statement table sheet) ≤ carriedWidth
-unfolding importVerdict importBytes underBytes
+unfolding weighedUnder importBytes ontoBytes
 import-few statement table sheet clear =
     let parts = smaller-clear (tableVerdict table) (readOf statement .verdict) (both-clear _ _ clear .0) in
-    statement-few _ (import-keeps (numbersOf table) (table-is table (parts .0)) (readOf statement .holding) (read-kept statement (parts .1)) sheet)
+    statement-few _ (import-keeps (numbersOf table) (table-is table (parts .0)) (readOf statement .holding) (read-kept limits statement (parts .1)) sheet)

@@ -1,4 +1,4 @@
--- How long a statement is whose holding is kept: each number has as many digits as its range, and sixteen lines at most follow one another.
+-- How long a statement is whose holding is kept: each number has as many digits as its range, and so many lines at most follow one another.
 use Rattle.laws.proofs.{ℕ, _+_, _*_, _≤_, Bool, true, false, List, [], _∷_, arith, length, length-append, length-take}
 use native.Mathlib.Nat.{mul-suc}
 use Rattle.forest.specs.{Forest, lettersOf}

@@ -1,7 +1,7 @@
 -- The foot of a statement that is accepted is that of its holding, since a statement carries it; and it is short.
 use Rattle.laws.proofs.{ℕ, _≤_, true, _≡_, sym, ap, _∙_, List, length}
 use Rattle.refusals.specs.{Verdict}
-use Rattle.statement_carried.specs.{carried}
+use Rattle.statement_carried.specs.{carried, limits}
 use Rattle.statement.specs.{Read, readOf}
 use Rattle.statement.proofs.Accepted.{read-accepted, read-holding}
 use Rattle.statement_pass.specs.{Passed, passedOver}
@@ -13,7 +13,7 @@ use Rattle.call_foot.specs.{footBytes}
 module _ (s : List ℕ) where
   module _ (clear : readOf s .verdict ≡ Verdict.Accepted) where
     footed : allCarried (readOf s .holding) ≡ true
-    footed = carried-footed _ (ap (λ (r : Read). carried (r .holding)) (read-holding s clear) ∙ read-accepted s clear .carries)
+    footed = carried-footed _ (ap (λ (r : Read). carried (r .holding)) (read-holding limits s clear) ∙ read-accepted limits s clear .carries)
 
     pub foot-read : footOf (readOf s .holding) ≡ footBytes s
     unfolding footBytes

@@ -1,2 +1,3 @@
 pub mod Import
-unfoldable pub use Import.{underVerdict, underBytes, importVerdict, importBytes, importWeighed, importAnswer, importOutput}
+pub use Import.{underVerdict, importVerdict}
+unfoldable pub use Import.{weighedUnder, importBytes, importWeighed, importAnswer, importOutput}

@@ -1,31 +1,21 @@
 // A sheet imported by a recorder's own program, onto the holding that a statement carries.
 ghost use mathlib.Core.Path.{_≡_};
 ghost use Rattle.call_output.specs.{Gives};
-ghost use Rattle.call_import.specs.{underVerdict, underBytes, importVerdict, importBytes};
+ghost use Rattle.sheet_import.specs.{ontoBytes};
+ghost use Rattle.call_import.specs.{underVerdict, importVerdict, importBytes};
 use refusals::Verdict;
 use refusals::Written;
 use table::LONGEST_TABLE;
 
-// Imports a sheet under the numbers of a table, which are judged, and writes the new statement to the front of `out`: how many bytes, or why nothing is written.
+// Imports a sheet under the numbers of a table, and writes the new statement to the front of `out`: how many bytes, or why nothing is written. The table is
+// judged first, since its number is less than the statement's.
 fn import_under(statement: &[u8], own: &[u16], sheet: &[u8], out: &mut [u8]) -> Written
-    ensures { λ r. ⌜ Gives (underVerdict (now (own .entry)) (now (statement .entry)) (now (sheet .entry))) (underBytes (now (own .entry)) (now (statement .entry)) (now (sheet .entry))) (now (out .entry)) r (now (out .exit)) ⌝ }
+    ensures { λ r. ⌜ Gives (underVerdict (now (own .entry)) (now (statement .entry)) (now (sheet .entry))) (ontoBytes (now (own .entry)) (now (statement .entry)) (now (sheet .entry))) (now (out .entry)) r (now (out .exit)) ⌝ }
 {
-    let table_verdict = table::judge(own);
-    let read = statement::read_from(statement);
-    let read_verdict = read.verdict;
-    let holding = read.holding;
-    let v = refusals::least(table_verdict, read_verdict);
-    match v {
+    let verdict = table::judge(own);
+    match verdict {
         Verdict::Refused(refusal) => Written::Refused(refusal),
-        Verdict::Accepted => {
-            let imported = sheet_import::import(own, holding, sheet);
-            let sheet_verdict = imported.verdict;
-            let after = imported.holding;
-            match sheet_verdict {
-                Verdict::Refused(refusal) => Written::Refused(refusal),
-                Verdict::Accepted => statement_write::write(after, out),
-            }
-        }
+        Verdict::Accepted => sheet_import::import(own, statement, sheet, out),
     }
 }
 

@@ -15,6 +15,7 @@ use Rattle.statement_places.specs.{areaIn, afterArea, placeOf, startOf, endOf}
 use Rattle.statement_places.proofs.Places.{Stands}
 use Rattle.statement_places.proofs.Items.{items-many}
 use Rattle.statement_places.proofs.Areas.{areas, body, firstAreas, areasBehind, counted, areas-read, read-end, behind-more, all-places, areas-split, behind-stand, first-stand, part-stands}
+use Rattle.statement_carried.specs.{limits}
 use Rattle.statement.specs.{Read, readOf}
 use Rattle.statement.proofs.Accepted.{read-accepted, read-holding}
 use Rattle.call_output.specs.{changedText}
@@ -25,13 +26,13 @@ module _ (s : List ℕ) (clear : readOf s .verdict ≡ Verdict.Accepted) where
   carries = readOf s .holding
 
   same : carries ≡ holdingAt s .holding
-  same = ap (λ (r : Read). r .holding) (read-holding s clear)
+  same = ap (λ (r : Read). r .holding) (read-holding limits s clear)
 
   ended : placeOf s (areas s) ≡ length s
-  ended = sym (read-end s) ∙ read-accepted s clear .ended
+  ended = sym (read-end s) ∙ read-accepted limits s clear .ended
 
   some-bytes : 0 < placeOf s (areas s)
-  some-bytes = omega (arith, read-end s, read-accepted s clear .started)
+  some-bytes = omega (arith, read-end s, read-accepted limits s clear .started)
 
   many : carries .count ≡ areas s
   many = ap (λ (h : Holding). h .count) same ∙ counted s

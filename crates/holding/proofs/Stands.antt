@@ -1,5 +1,5 @@
 -- What a search found stands in the list and bears the number; where it found nothing, nothing bears it; and it looks at numbers alone.
-use Rattle.laws.proofs.{ℕ, suc, _+_, _<_, Bool, true, false, cond, _||_, _≡_, refl, sym, ap, List, [], _∷_, map, arith, eqb-true, eqb, length, getD}
+use Rattle.laws.proofs.{ℕ, suc, _+_, _<_, Bool, true, false, cond, _||_, _≡_, refl, sym, ap, _∙_, List, [], _∷_, _++_, map, arith, eqb-true, eqb, length, getD}
 use Rattle.laws.specs.{some}
 use Rattle.holding.specs.{Found, placeFrom}
 
@@ -44,3 +44,19 @@ pub place-of-numbers : {A : Type 0} (numberOf : A → ℕ) (n j : ℕ) (l : List
 unfolding placeFrom
 place-of-numbers numberOf n j [] = refl
 place-of-numbers numberOf n j (a ∷ l) = ap (cond (eqb (numberOf a) n) (Found.At j)) (place-of-numbers numberOf n (j + 1) l)
+
+-- so it finds the same where the numbers are the same, and what it finds it finds with more behind
+module _ {A : Type 0} (numberOf : A → ℕ) where
+  pub found-same : (n j : ℕ) (l m : List A) → map numberOf l ≡ map numberOf m → placeFrom numberOf n j l ≡ placeFrom numberOf n j m
+  found-same n j l m e = place-of-numbers numberOf n j l ∙ ap (placeFrom (λ (k : ℕ). k) n j) e ∙ sym (place-of-numbers numberOf n j m)
+
+  pub found-before : (n j i : ℕ) (l more : List A) → placeFrom numberOf n j l ≡ Found.At i → placeFrom numberOf n j (l ++ more) ≡ Found.At i
+  unfolding placeFrom
+  found-before n j i [] more e = absurd (let z : _≡_ {A = ℕ} 0 1 = cc in omega arith)
+  found-before n j i (a ∷ l) more e = go (eqb (numberOf a) n) e (found-before n (j + 1) i l more)
+    where
+      go : (t : Bool) → cond t (Found.At j) (placeFrom numberOf n (j + 1) l) ≡ Found.At i
+          → (placeFrom numberOf n (j + 1) l ≡ Found.At i → placeFrom numberOf n (j + 1) (l ++ more) ≡ Found.At i)
+          → cond t (Found.At j) (placeFrom numberOf n (j + 1) (l ++ more)) ≡ Found.At i
+      go true e rest = e
+      go false e rest = rest e

@@ -1,4 +1,4 @@
--- "A holding has up to 16 accounting areas ever (records are kept), each with up to 16 sub-areas."
+-- "A holding has up to 16 accounting areas ever (records are kept), each with up to 16 sub-areas." Of these, "the limit becomes 48" (document 02, item 4).
 use Rattle.laws.specs.{ℕ, Bool, true, false, cond, _&&_, List, [], _∷_, eqb, take, replicate, _+_}
 use Rattle.units.specs.{Kilograms, noKilograms}
 use Rattle.forest.specs.{Forest}
@@ -13,7 +13,7 @@ abbrev pub mostAreas : ℕ
 mostAreas = 16
 
 abbrev pub mostSubs : ℕ
-mostSubs = 16
+mostSubs = 48
 
 -- the areas and sub-areas that stand, in order of opening and adding
 abbrev pub areasOf : Holding → List Area
@@ -43,8 +43,9 @@ emptySub = record { number = 0; tenths = record { 0 = 0 }; forest = Forest.Bare;
 
 -- an area of a number and an opening year, with no sub-areas, returns, stock or units: "Each area has an open year (at first its opening)
 -- and a latest year (greatest of its C and P entries, 0 if none)."
-abbrev pub openedArea : ℕ → ℕ → Area
-openedArea number opening = record {
+-- With room for so many sub-areas:
+abbrev pub openedWith : ℕ → ℕ → ℕ → Area
+openedWith places number opening = record {
   number = number;
   opening = opening;
   «open_year» = opening;
@@ -55,8 +56,11 @@ openedArea number opening = record {
   received = 0;
   surrendered = 0;
   count = 0;
-  subs = replicate mostSubs emptySub;
+  subs = replicate places emptySub;
 }
+
+abbrev pub openedArea : ℕ → ℕ → Area
+openedArea = openedWith mostSubs
 
 abbrev pub emptyArea : Area
 emptyArea = openedArea 0 0

@@ -1,6 +1,7 @@
 // The state of the accounts: a holding of accounting areas, each of sub-areas, by value.
 ghost use mathlib.Core.Path.{_≡_};
-ghost use Rattle.holding.specs.{emptySub, emptyArea, emptyHolding, numbersIn, findArea, findSub};
+ghost use lib.ListN.{replicate};
+ghost use Rattle.holding.specs.{mostSubs, emptySub, emptyArea, emptyHolding, numbersIn, findArea, findSub};
 use forest::Forest;
 use units::Kilograms;
 use units::Tenths;
@@ -8,7 +9,7 @@ use units::Tenths;
 // The most areas that a holding has, and the most sub-areas that an area has.
 pub const MOST_AREAS: usize = 16;
 
-pub const MOST_SUBS: usize = 16;
+pub const MOST_SUBS: usize = 48;
 
 // What is left of the latest clearing: the type and age of the trees cleared, and the year. Bare land where there is none.
 pub struct Residue {
@@ -69,6 +70,13 @@ pub fn empty_sub() -> Sub
     }
 }
 
+// The places of an area with no sub-area.
+fn no_subs() -> [Sub; MOST_SUBS]
+    ensures { λ r. ⌜ r ≡ replicate mostSubs emptySub ⌝ }
+{
+    [empty_sub(); MOST_SUBS]
+}
+
 pub fn empty_area() -> Area
     ensures { λ r. ⌜ r ≡ emptyArea ⌝ }
 {
@@ -83,7 +91,7 @@ pub fn empty_area() -> Area
         received: 0,
         surrendered: 0,
         count: 0,
-        subs: [empty_sub(); MOST_SUBS],
+        subs: no_subs(),
     }
 }
 

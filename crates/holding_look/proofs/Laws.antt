@@ -30,10 +30,6 @@ module _ (area : Area) (found : Found) where
   unfolding subAt
   sub-here i d e h = rw e (getD-same (area .subs) i d emptySub h)
 
-  pub sub-out : (i : ℕ) → found ≡ Found.At i → length (area .subs) ≤ i → emptySub ≡ subAt area found
-  unfolding subAt
-  sub-out i e h = rw e (sym (List·getD-eq-default (area .subs) emptySub h))
-
   pub sub-nowhere : found ≡ Found.Nowhere → emptySub ≡ subAt area found
   unfolding subAt
   sub-nowhere e = simp e

@@ -1,7 +1,7 @@
 // What stands at a place that a search found, an area looked up by its number, and an area with a sub-area put back.
 ghost use mathlib.Core.Path.{_≡_};
 ghost use Prim.Native.Nat.{_<_};
-ghost use Rattle.holding.specs.{mostAreas};
+ghost use Rattle.holding.specs.{Found, emptySub, mostAreas, findSub};
 ghost use Rattle.holding_look.specs.{known, areaAt, lookedUp, subAt, withSub};
 ghost use Prim.Native.Nat.{max};
 use holding::Area;
@@ -64,18 +64,44 @@ pub fn look_up(holding: Holding, number: u16) -> Looked
     }
 }
 
-pub fn sub_at(area: Area, found: Found) -> Sub
-    ensures { λ r. ⌜ r ≡ subAt area found ⌝ }
+// Where a sub-area stands, and the sub-area, the empty one where there is none.
+pub struct Stand {
+    pub found: Found,
+    pub sub: Sub,
+}
+
+fn no_stand() -> Stand
+    ensures { λ r. ⌜ r .found ≡ Found.Nowhere ⌝ }
+    ensures { λ r. ⌜ r .sub ≡ emptySub ⌝ }
 {
-    match found {
-        Found::At(i) => {
-            if i < MOST_SUBS {
-                return area.subs[i];
-            }
-            holding::empty_sub()
-        }
-        Found::Nowhere => holding::empty_sub(),
+    let sub = holding::empty_sub();
+    Stand {
+        found: Found::Nowhere,
+        sub,
     }
+}
+
+// The standing sub-area with the number, in one search.
+pub fn find_stand(area: Area, number: u8) -> Stand
+    ensures { λ r. ⌜ r .found ≡ findSub area number ⌝ }
+    ensures { λ r. ⌜ r .sub ≡ subAt area (findSub area number) ⌝ }
+{
+    let n = area.count;
+    let mut i: usize = 0;
+    while i < MOST_SUBS {
+        if n <= i {
+            return no_stand();
+        }
+        let sub = area.subs[i];
+        if sub.number == number {
+            return Stand {
+                found: Found::At(i),
+                sub,
+            };
+        }
+        i += 1;
+    }
+    no_stand()
 }
 
 // Units of one area or of many.

@@ -1,8 +1,15 @@
--- Tests over a whole list: where none passes, no element does; and what is kept is what passes.
+-- Tests over a whole list: where none passes, no element does; what is kept is what passes; and so of two lists, one behind the other.
+use Prim.Native.Nat.{ℕ}
 use mathlib.Core.Bool.{Bool, true, false, cond, _||_}
 use mathlib.Core.Path.{_≡_, refl, sym, ap, _∙_}
-use mathlib.Core.List.{List, [], _∷_, foldl, List·Memᴰ, List·Memᴰ·head, List·Memᴰ·tail}
-use Rattle.laws.specs.{some, keep}
+use mathlib.Core.List.{List, [], _∷_, _++_, foldl, List·Memᴰ, List·Memᴰ·head, List·Memᴰ·tail}
+use native.Mathlib.Omega.{arith}
+use Rattle.laws.specs.{some, keep, every}
+use Rattle.laws.proofs.Lists.{and-left, and-right, both}
+
+-- no test holds and fails
+pub clash : {P : Type 0} → _≡_ {A = Bool} true false → P
+clash e = absurd (let z : _≡_ {A = ℕ} 0 1 = cc in omega arith)
 
 pub or-false-left : (a b : Bool) → (a || b) ≡ false → a ≡ false
 or-false-left true b e = e
@@ -62,3 +69,17 @@ module _ {A : Type 0} (p : A → Bool) where
           → foldl f b (cond t (a ∷ keep p l) (keep p l)) ≡ foldl (λ c a. cond (p a) (f c a) c) (cond t (f b a) b) l
       go true rest = rest (f b a)
       go false rest = rest b
+
+  pub keep-append : (l m : List A) → keep p (l ++ m) ≡ keep p l ++ keep p m
+  unfolding keep
+  keep-append [] m = refl
+  keep-append (a ∷ l) m = go (p a) (keep-append l m)
+    where
+      go : (t : Bool) → keep p (l ++ m) ≡ keep p l ++ keep p m → cond t (a ∷ keep p (l ++ m)) (keep p (l ++ m)) ≡ cond t (a ∷ keep p l) (keep p l) ++ keep p m
+      go true e = ap (λ (k : List A). a ∷ k) e
+      go false e = e
+
+  pub every-append : (l m : List A) → every p l ≡ true → every p m ≡ true → every p (l ++ m) ≡ true
+  unfolding every
+  every-append [] m e f = f
+  every-append (a ∷ l) m e f = both _ _ (and-left (p a) (every p l) e) (every-append l m (and-right (p a) (every p l) e) f)

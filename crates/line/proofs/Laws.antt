@@ -1,5 +1,6 @@
 -- The laws of a line: its body, its letter, and what refuses it before its letter is looked at.
-use Rattle.laws.proofs.{ℕ, _-_, _≤_, _<_, _≡_, refl, sym, ap, _∙_, Bool, true, false, List, [], _∷_, arith, eq-eqb, ne-eqb, lt-ltb, le-ltb, length, getD, take, drop, take-all}
+use Rattle.laws.proofs.{ℕ, _-_, _≤_, _<_, _≡_, refl, sym, ap, _∙_, Bool, true, false, List, [], _∷_, _++_, arith, eq-eqb, ne-eqb, lt-ltb, le-ltb, length, getD, take, drop, take-all, length-append}
+use lib.Seq.{take-at, getD-at}
 use Rattle.text.specs.{comma, lineEnd, holds, split}
 use Rattle.refusals.specs.{Verdict, Case, _⇒_, weighed, weighAll, smallest, Refusal}
 use Rattle.refusals.proofs.Smallest.{turned-stands}
@@ -23,6 +24,14 @@ module _ (line : List ℕ) (n : ℕ) (e : n ≡ length line) where
 pub body-empty : (line : List ℕ) (n : ℕ) → n ≡ length line → n ≡ 0 → take (n - 0) (drop 0 line) ≡ bodyOf line
 body-empty [] n e h = body-open [] n e (λ z. omega arith)
 body-empty (b ∷ line) n e h = absurd (omega arith)
+
+-- bytes and an end are a line whose body they are
+pub ended-body : (s : List ℕ) → bodyOf (s ++ (lineEnd ∷ [])) ≡ s
+unfolding bodyOf
+ended-body s =
+    let n = length (s ++ (lineEnd ∷ [])) - 1 in
+    let e : length s ≡ n = omega (arith, length-append s (lineEnd ∷ [])) in
+    simp (eq-eqb (getD (s ++ (lineEnd ∷ [])) n 0) lineEnd (getD-at s lineEnd [] 0 n e)) (take-at s (lineEnd ∷ []) n e)
 
 pub letter-none : (s : List ℕ) → length s ≡ 0 → 0 ≡ letterOf s
 unfolding letterOf

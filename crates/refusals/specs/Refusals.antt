@@ -27,7 +27,7 @@ numberOf Refusal.AreaUsed = 21
 numberOf Refusal.AreaUnknown = 22
 numberOf Refusal.AreaWithdrawn = 23
 numberOf Refusal.AreasFull = 24
--- "25 sub already used; 26 sixteen subs stand; 27 area has filed; 28 sub unknown"
+-- "25 sub already used; 26 sixteen subs stand; 27 area has filed; 28 sub unknown"; "number 26 is then given at 48"
 numberOf Refusal.SubUsed = 25
 numberOf Refusal.SubsFull = 26
 numberOf Refusal.AreaFiled = 27

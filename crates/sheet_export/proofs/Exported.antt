@@ -1,18 +1,13 @@
--- The heading, and the rows of all lines from the start on, are the export; it is short of the greatest place, so that a measure is its length, and where
+-- The heading, and the rows of all lines, are the export; it is short of the greatest place, so that a measure is its length, and where
 -- there is room for any no measure is needed.
-use Rattle.laws.proofs.{ℕ, _≤_, _<_, _≡_, sym, ap, _∙_, List, _++_, arith, lt-ltb, le-ltb, length, take}
+use Rattle.laws.proofs.{ℕ, _≤_, _<_, _≡_, refl, List, _++_, arith, lt-ltb, le-ltb, length}
 use Rattle.text.specs.{Wrote, greatest}
 use Rattle.statement_format.specs.{texts}
 use Rattle.refusals.specs.{Refusal, Verdict, weighed, weighAll, smallest, written, bufferAfter, Written}
 use Rattle.statement_write.specs.{writable}
 use Rattle.statement_write.proofs.Writable.{accepted}
 use Rattle.book_print.specs.{refusalText}
-use Rattle.book_listing.specs.{Run, start, longestBook}
-use Rattle.book_listing.proofs.Lines.{lines-run}
-use Rattle.book_reached.specs.{runOf, nothingReached}
-use Rattle.book_reached.proofs.Bounds.{begun}
-use Rattle.book_run.specs.{Print, linesFrom, printedBy}
-use Rattle.book_run.proofs.Runs.{all-lines}
+use Rattle.book_listing.specs.{start, linesRun, longestBook}
 use Rattle.sheet_judge.specs.{headingRow}
 use Rattle.sheet_write.specs.{rowText, sheetText}
 use Rattle.book_export.specs.{exportedFrom, exportRows, exportOf, exportWeighed}
@@ -20,6 +15,10 @@ use Rattle.sheet_export.specs.{exportRoom, sheetPrinted}
 use Rattle.sheet_export.proofs.Bound.{export-at-most}
 
 module _ (book : List ℕ) where
+  pub export-whole : rowText headingRow ++ sheetText (exportedFrom start (linesRun book)) ≡ exportOf book
+  unfolding exportOf exportRows sheetText texts
+  export-whole = refl
+
   pub too-long : longestBook < length book → exportWeighed book ≡ Verdict.Refused Refusal.Form
   unfolding smallest weighAll weighed
   too-long h = simp (lt-ltb longestBook (length book) h)
@@ -36,13 +35,6 @@ module _ (book : List ℕ) where
     pub printed-within : exportOf book ≡ sheetPrinted book
     unfolding sheetPrinted
     printed-within = simp (le-ltb longestBook (length book) short)
-
-    pub export-whole : rowText headingRow ++ printedBy Print.Rows (runOf nothingReached) (take longestBook (linesFrom book 0)) ≡ exportOf book
-    unfolding exportOf exportRows sheetText texts
-    export-whole =
-        ap (λ (l : List (List ℕ)). rowText headingRow ++ texts rowText (exportedFrom (runOf nothingReached) l)) (all-lines book short)
-        ∙ ap (λ (r : Run). rowText headingRow ++ texts rowText (exportedFrom r (linesFrom book 0))) begun
-        ∙ ap (λ (l : List (List ℕ)). rowText headingRow ++ texts rowText (exportedFrom start l)) (sym (lines-run book short))
 
     pub bounded : length (exportOf book) ≤ greatest
     bounded = omega (arith, export-at-most book short)

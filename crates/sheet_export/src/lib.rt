@@ -11,7 +11,6 @@ ghost use Rattle.book_parts.specs.{Whole};
 ghost use Rattle.call_output.specs.{Gives};
 ghost use Rattle.sheet_export.specs.{sheetPrinted};
 use book_listing::LONGEST_BOOK;
-use book_run::Print;
 use refusals::Refusal;
 use refusals::Written;
 
@@ -25,13 +24,10 @@ pub const ROOM: usize = HEADING + MOST_FOR_BYTE * (LONGEST_BOOK + 1);
 
 // Puts the heading, and behind it the rows of a book; the answer is the place after them.
 fn put_export(book: &[u8], out: &mut [u8]) -> usize
-    requires { ⌜ length (now book) ≤ longestBook ⌝ }
     ensures { λ r. ⌜ Wrote (now (out .entry)) 0 (exportOf (now (book .entry))) (now (out .exit)) r ⌝ }
 {
     let at = sheet_write::put_heading(out, 0);
-    let nothing = book_reached::nothing_reached();
-    let rows = book_run::put_lines(Print::Rows, book, 0, nothing, LONGEST_BOOK, out, at);
-    rows.count
+    book_run::put_rows(book, out, at)
 }
 
 // Writes the export to the front of `out`: how many bytes it has, or why it is not written. Where there is room for any export it is not measured.

@@ -1,3 +1,5 @@
 pub mod Lines
 pub mod Rows
 pub mod Sheets
+pub mod Reading
+pub mod Onto

@@ -1,22 +1,14 @@
 -- A row's line: what was put into the room for a line is the line where it fits, and a line that does not fit is too long to be an entry. Its letter is S,
 -- so that it is read as no column.
-use Rattle.laws.proofs.{ℕ, _+_, _-_, _≤_, _<_, _≡_, refl, sym, ap, _∙_, true, List, [], _∷_, _++_, arith, eq-eqb, length, take, drop, getD, replicate, length-append, length-replicate}
-use lib.Seq.{take-at, getD-at}
+use Rattle.laws.proofs.{ℕ, _+_, _-_, _≤_, _<_, _≡_, sym, ap, _∙_, List, [], _∷_, _++_, arith, length, take, drop, replicate, length-append, length-replicate}
+use lib.Seq.{take-at}
 use Rattle.text.specs.{comma, lineEnd, Wrote}
 use Rattle.text.proofs.Writes.{wrote-is, wrote-next, wrote-length}
 use Rattle.refusals.specs.{Refusal}
 use Rattle.line_entry.specs.{Entry, Parsed}
-use Rattle.line.specs.{bodyOf, longest, letterOf, isColumnLine, entryOf}
-use Rattle.line.proofs.Laws.{too-long}
+use Rattle.line.specs.{longest, letterOf, isColumnLine, entryOf}
+use Rattle.line.proofs.Laws.{ended-body, too-long}
 use Rattle.line.proofs.Columns.{column-named}
-
--- a line besides its end
-pub body-ended : (s : List ℕ) → bodyOf (s ++ (lineEnd ∷ [])) ≡ s
-unfolding bodyOf
-body-ended s =
-    let n = length (s ++ (lineEnd ∷ [])) - 1 in
-    let e : length s ≡ n = omega (arith, length-append s (lineEnd ∷ [])) in
-    simp (eq-eqb (getD (s ++ (lineEnd ∷ [])) n 0) lineEnd (getD-at s lineEnd [] 0 n e)) (take-at s (lineEnd ∷ []) n e)
 
 -- room for the longest line and its end
 abbrev pub room : List ℕ
@@ -33,13 +25,13 @@ module _ (joined : List ℕ) where
   pub no-column : (column : ℕ) → entryOf line ≡ Parsed.Taken (Entry.Column column) → ⊥
   unfolding isColumnLine letterOf
   no-column column e =
-      let named = rw (body-ended inner) at (column-named line column e) in
+      let named = rw (ended-body inner) at (column-named line column e) in
       let z : _≡_ {A = ℕ} 0 1 = cc in omega arith
 
   -- the line put from the front of the room
   module _ (after : List ℕ) (end : ℕ) (w : Wrote room 0 line after end) where
     pub line-long : longest + 1 < end → Parsed.Refused Refusal.Form ≡ entryOf line
-    line-long h = too-long line inner (sym (body-ended inner)) (omega (arith, w .place, length-append inner (lineEnd ∷ [])))
+    line-long h = too-long line inner (sym (ended-body inner)) (omega (arith, w .place, length-append inner (lineEnd ∷ [])))
 
     module _ (h : end ≤ longest + 1) where
       fits : 0 + length line ≤ length room

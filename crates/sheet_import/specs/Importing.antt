@@ -8,7 +8,6 @@ use Rattle.step_outcome.specs.{Outcome, placed}
 use Rattle.book_listing.specs.{lineTaken}
 use Rattle.sheet_read.specs.{Row, rowsOf}
 use Rattle.sheet_judge.specs.{sheetVerdict}
-use Rattle.sheet_import.specs.declared.Imported.{Imported}
 
 -- a row's S entry: "S,", the row's fields joined by commas, and byte 10 as the line's own end
 abbrev pub rowLine : Row → List ℕ
@@ -17,6 +16,11 @@ rowLine row = code "S" ∷ comma ∷ (join row ++ (lineEnd ∷ []))
 -- what it comes to, as any line does
 abbrev pub rowTaken : List ℕ → Holding → Row → Outcome
 rowTaken own holding row = lineTaken own holding (rowLine row)
+
+-- what an import comes to; where a sheet is turned back the holding is the one that was given
+pub record Imported : Type 0 where
+  pub verdict : Verdict
+  pub holding : Holding
 
 -- a refusal, and the holding that was given
 abbrev pub importedIf : Verdict → Holding → Imported → Imported

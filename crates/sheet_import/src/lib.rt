@@ -1,24 +1,18 @@
-// Sub-areas of a sheet added to a holding, all of them or none.
+// Sub-areas of a sheet added to the holding of a statement, all of them or none.
 ghost use mathlib.Core.Path.{_≡_};
-ghost use lib.ListN.{drop};
-ghost use Rattle.schedules.specs.{schedule6};
-ghost use Rattle.sheet_read.specs.{rowsOf};
-ghost use Rattle.sheet_import.specs.{ReadsRow, rowOutcome, importRows, importOnto, importedIf};
+ghost use Rattle.statement_field.specs.{Put};
+ghost use Rattle.call_output.specs.{Gives};
+ghost use Rattle.sheet_import.specs.{ReadsRow, rowOutcome, firstText, firstWidth, ontoVerdict, ontoBytes};
 use holding::Found;
-use holding::Holding;
 use holding::MOST_AREAS;
 use holding_look::Looked;
 use line_entry::Entry;
 use line_entry::Parsed;
 use refusals::Refusal;
 use refusals::Verdict;
+use refusals::Written;
+use statement_parse::AREAS_READ;
 use step_outcome::Outcome;
-
-// Where a sheet is turned back the holding is the one that was given.
-pub struct Imported {
-    pub verdict: Verdict,
-    pub holding: Holding,
-}
 
 // Room for the longest line that may be an entry, and for its end.
 const LINE_ROOM: usize = line::LONGEST + 1;
@@ -66,70 +60,98 @@ fn take_row<'a>(own: &'a [u16], default: &'a [u16], looked: Looked, parsed: Pars
     }
 }
 
-// Adds the sub-areas of the rows from a place on, in order. The numbers of the areas are kept beside the holding, so that no row is given it.
-fn import_rows(own: &[u16], given: Holding, sheet: &[u8], start: usize) -> Imported
-    ensures { λ r. ⌜ r ≡ importRows (now (own .entry)) given given (rowsOf (drop start (now (sheet .entry)))) ⌝ }
+// Puts a statement's first line.
+fn put_first(out: &mut [u8], at: usize, count: usize) -> usize
+    ensures { λ r. ⌜ Put firstWidth (now (out .entry)) at (firstText count) (now (out .exit)) r ⌝ }
 {
+    let next = statement_field::put_start(out, at, b'H');
+    statement_field::put_field(out, next, count as u64, b'\n')
+}
+
+// Imports a sheet onto the holding of a statement, under a table that whoever calls has judged, and writes the new statement to the front of `out`: how many
+// bytes, or why nothing is written. The areas stand here alone and are handed on one at a time, since a holding is most of what the stack takes.
+pub fn import(own: &[u16], statement: &[u8], sheet: &[u8], out: &mut [u8]) -> Written
+    ensures { λ r. ⌜ Gives (ontoVerdict (now (own .entry)) (now (statement .entry)) (now (sheet .entry))) (ontoBytes (now (own .entry)) (now (statement .entry)) (now (sheet .entry))) (now (out .entry)) r (now (out .exit)) ⌝ }
+{
+    let start = statement_cursor::start(statement, 0, b'H');
+    let head = statement_cursor::number(statement, start, b'\n', AREAS_READ);
+    let mut count = head.value as usize;
+    let mut areas = [holding::empty_area(); MOST_AREAS];
+    let mut numbers = [0u16; MOST_AREAS];
+    let mut kept = true;
+    let mut next = head.next;
+    let mut i: usize = 0;
+    while i < count {
+        let read = statement_parse::read_area(statement, next);
+        let area = read.area;
+        kept = kept & statement_judge::area(area);
+        numbers[i] = area.number;
+        areas[i] = area;
+        next = read.next;
+        i += 1;
+    }
+    let apart = statement_distinct::numbers(&numbers[0..count]);
+    if !((0 < next) & (next == statement.len()) & kept & apart) {
+        return Written::Refused(Refusal::CarriedStatement);
+    }
+    let sheet_verdict = sheet_judge::judge(sheet);
+    if let Verdict::Refused(refusal) = sheet_verdict {
+        return Written::Refused(refusal);
+    }
     let default = schedules::schedule_six();
-    let mut holding = given;
-    let mut numbers = holding::numbers_of(given);
-    let mut at = start;
+    let mut unkept = [0u8; 1];
+    let heading = sheet_read::put_joined(sheet, 0, &mut unkept, 0);
+    let mut one = holding::empty_area();
+    let mut at = heading.next;
     while at < sheet.len() {
         let row = read_row(sheet, at);
         let parsed = row.parsed;
-        let names = book_find::find(&numbers, holding.count, parsed);
+        let names = book_find::find(&numbers, count, parsed);
         let found = names.found;
-        let mut named = holding::empty_area();
+        one = holding::empty_area();
         if let Found::At(k) = found {
             if k < MOST_AREAS {
-                named = holding.areas[k];
+                one = areas[k];
             }
         }
         let looked = Looked {
             number: names.number,
-            count: holding.count,
+            count,
             found,
-            area: named,
+            area: one,
         };
         let outcome = take_row(own, &default, looked, parsed);
         let verdict = outcome.verdict;
         if let Verdict::Refused(refusal) = verdict {
-            return Imported {
-                verdict: Verdict::Refused(refusal),
-                holding: given,
-            };
+            return Written::Refused(refusal);
         }
         let place = outcome.place;
         if let Found::At(k) = place {
             let area = outcome.area;
             if k < MOST_AREAS {
-                holding.areas[k] = area;
+                areas[k] = area;
                 numbers[k] = area.number;
             }
-            holding.count = outcome.count;
+            count = outcome.count;
         }
         at = row.next;
     }
-    Imported {
-        verdict: Verdict::Accepted,
-        holding,
+    let mut need = put_first(&mut unkept, 0, count);
+    let mut j: usize = 0;
+    while (j < MOST_AREAS) & (j < count) {
+        one = areas[j];
+        need = statement_write::put_area(&mut unkept, need, one);
+        j += 1;
     }
-}
-
-// Adds the sub-areas of a sheet to a holding under a table. Both are the caller's, who has judged them.
-pub fn import(own: &[u16], holding: Holding, sheet: &[u8]) -> Imported
-    ensures { λ r. ⌜ r ≡ importOnto (now (own .entry)) holding (now (sheet .entry)) ⌝ }
-{
-    let verdict = sheet_judge::judge(sheet);
-    match verdict {
-        Verdict::Refused(refusal) => Imported {
-            verdict: Verdict::Refused(refusal),
-            holding,
-        },
-        Verdict::Accepted => {
-            let mut unkept = [0u8; 1];
-            let heading = sheet_read::put_joined(sheet, 0, &mut unkept, 0);
-            import_rows(own, holding, sheet, heading.next)
-        }
+    if out.len() < need {
+        return Written::Refused(Refusal::OutputShort);
     }
+    let mut end = put_first(out, 0, count);
+    let mut k: usize = 0;
+    while (k < MOST_AREAS) & (k < count) {
+        one = areas[k];
+        end = statement_write::put_area(out, end, one);
+        k += 1;
+    }
+    Written::Count(end)
 }

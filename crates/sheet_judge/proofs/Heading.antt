@@ -9,7 +9,7 @@ use Rattle.text.proofs.Joins.{split-joined}
 use Rattle.text.proofs.Writes.{wrote-as}
 use Rattle.sheet_read.specs.{Row, JoinedRow, Joined, rowsOf, rowsFrom, fieldsFrom}
 use Rattle.sheet_read.proofs.Joined.{firstOf, first-row}
-use Rattle.sheet_judge.specs.{headingRow, fiveFields, sameBytes, sameRow, regular}
+use Rattle.sheet_judge.specs.{headingRow, fiveFields, sameBytes, sameRow, regular, sameBy}
 use Rattle.sheet_judge.proofs.Rows.{rowsAt}
 use Rattle.sheet_judge.proofs.Same.{same-bytes, same-row}
 
@@ -24,7 +24,7 @@ heading-only row some five e =
     sym (split-joined row some (ap length apart ∙ sym five)) ∙ apart
 
 heading-self : sameRow headingRow headingRow ≡ true
-unfolding sameRow sameBytes
+unfolding sameBy
 heading-self = refl
 
 -- a row, put into a buffer as long as the heading
@@ -45,7 +45,7 @@ module _ (row : Row) (some : 0 < length row) (fields end : ℕ) (buffer : List �
       heading-only row some (sym n ∙ five) (sym kept ∙ same)
 
   named : row ≡ headingRow → tests ≡ true
-  unfolding join joinAfter sameBytes
+  unfolding join joinAfter sameBy
   named e =
       let five = eq-eqb fields 5 (n ∙ ap length e) in
       let wide = eq-eqb end 30 (w .place ∙ ap (λ (r : Row). min (0 + length (join r)) greatest) e) in

@@ -17,17 +17,18 @@ headingRow =
 abbrev pub fiveFields : Row → Bool
 fiveFields row = eqb (length row) (length headingRow)
 
-unfoldable pub sameBytes : List ℕ → List ℕ → Bool
-sameBytes [] [] = true
-sameBytes [] (c ∷ cs) = false
-sameBytes (b ∷ bs) [] = false
-sameBytes (b ∷ bs) (c ∷ cs) = eqb b c && sameBytes bs cs
+-- lists whose elements are found the same, one by one
+unfoldable pub sameBy : {A : Type 0} → (A → A → Bool) → List A → List A → Bool
+sameBy same [] [] = true
+sameBy same [] (b ∷ m) = false
+sameBy same (a ∷ l) [] = false
+sameBy same (a ∷ l) (b ∷ m) = same a b && sameBy same l m
 
-unfoldable pub sameRow : Row → Row → Bool
-sameRow [] [] = true
-sameRow [] (g ∷ gs) = false
-sameRow (f ∷ fs) [] = false
-sameRow (f ∷ fs) (g ∷ gs) = sameBytes f g && sameRow fs gs
+abbrev pub sameBytes : List ℕ → List ℕ → Bool
+sameBytes = sameBy eqb
+
+abbrev pub sameRow : Row → Row → Bool
+sameRow = sameBy sameBytes
 
 -- the heading, and then rows of five fields; a sheet without a row has no heading
 unfoldable pub regular : List Row → Bool

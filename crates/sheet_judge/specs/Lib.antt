@@ -1,3 +1,3 @@
 pub mod Judging
-pub use Judging.{headingRow, fiveFields}
-unfoldable pub use Judging.{sameBytes, sameRow, regular, sheetVerdict}
+pub use Judging.{headingRow, fiveFields, sameBytes, sameRow}
+unfoldable pub use Judging.{sameBy, regular, sheetVerdict}

@@ -1,4 +1,4 @@
--- The rows of a sheet, each of its fields, unquoted.
+-- "rows as comma-separated values under RFC 4180": the rows of a sheet, each of its fields, unquoted.
 use Rattle.laws.specs.{ℕ, List, [], _∷_}
 use Rattle.text.specs.{extend}
 use Rattle.sheet_read.specs.declared.Reading.{Reading}

@@ -1,4 +1,4 @@
 pub mod Statement
 pub use declared.Read.{Read}
-pub use Statement.{accepts, readIf}
-unfoldable pub use Statement.{acceptable, readOf}
+pub use Statement.{acceptsWithin, readIf, accepts, acceptable, readOf}
+unfoldable pub use Statement.{acceptableWithin, readWithin}

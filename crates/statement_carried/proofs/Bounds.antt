@@ -4,7 +4,7 @@ use Rattle.laws.proofs.Tests.{AllTrue, all-true}
 use Rattle.laws.proofs.Lists.{and-left}
 use Rattle.ranges.specs.{firstYear, lastYear}
 use Rattle.holding.specs.{Area, mostSubs}
-use Rattle.statement_carried.specs.{stockForSub, receivedForReturn, yearsCarried, amountsCarried, fieldsCarried, areaCarried}
+use Rattle.statement_carried.specs.{stockForSub, receivedForReturn, yearsCarried, amountsWithin, fieldsCarried, fieldsWithin, areaCarried, areaWithin}
 
 pub record Bounds (area : Area) : Type 0 where
   pub count : area .count ≤ mostSubs
@@ -16,11 +16,11 @@ pub record Bounds (area : Area) : Type 0 where
 
 -- an area that is carried whole has such fields
 pub area-fields : (area : Area) → areaCarried area ≡ true → fieldsCarried area ≡ true
-unfolding areaCarried AllTrue
+unfolding areaWithin AllTrue
 area-fields area e = all-true _ e .0
 
 pub bounds : (area : Area) → fieldsCarried area ≡ true → Bounds area
-unfolding fieldsCarried yearsCarried amountsCarried AllTrue
+unfolding fieldsWithin yearsCarried amountsWithin AllTrue
 bounds area e =
     let fields = all-true _ e in
     let years = all-true _ (fields .1 .1 .0) in
@@ -39,7 +39,7 @@ abbrev pub mostUnits : ℕ
 mostUnits = receivedForReturn * (lastYear + 1 - firstYear)
 
 pub units-few : (area : Area) → fieldsCarried area ≡ true → max (area .received) (area .surrendered) ≤ mostUnits
-unfolding fieldsCarried yearsCarried AllTrue
+unfolding fieldsWithin yearsCarried AllTrue
 units-few area e =
     let years = all-true _ (all-true _ e .1 .1 .0) in
     let opens = leb-true firstYear (area .opening) (and-left (leb firstYear (area .opening)) (leb (area .opening) lastYear) (years .0)) in

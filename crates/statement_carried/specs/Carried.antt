@@ -1,15 +1,8 @@
 -- What a holding keeps so that a statement carries it: "A reader accepts it exactly when .." of document 01.
 use Rattle.laws.specs.{ℕ, _+_, _*_, max, Bool, not, _||_, Bool·beq, [], _∷_, eqb, leb, every, distinct, allOf}
 use Rattle.ranges.specs.{lastYear, isBare, isArea, isSub, isYear, isLand, isPlanted}
-use Rattle.holding.specs.{Residue, Sub, Area, Holding, mostAreas, mostSubs, areasOf, subsOf, residuesOf}
-
--- "stock is at most 6×10^10 for each sub"
-abbrev pub stockForSub : ℕ
-stockForSub = 60000000000
-
--- "received is at most 10^9 for each return"
-abbrev pub receivedForReturn : ℕ
-receivedForReturn = 1000000000
+use Rattle.holding.specs.{Residue, Sub, Area, Holding, mostAreas, areasOf, subsOf, residuesOf}
+use Rattle.statement_carried.specs.Most.{Limits, limits}
 
 -- "its age is at most 299"
 abbrev pub oldestResidue : ℕ
@@ -28,19 +21,19 @@ yearsCarried area =
     ∷ leb (area .returns + area .opening) (area .«open_year»)
     ∷ [])
 
--- "stock is at most 6×10^10 for each sub; received is at most 10^9 for each return; surrendered is at most received (equal if withdrawn)"
-unfoldable pub amountsCarried : Area → Bool
-amountsCarried area =
+-- "stock is at most .. for each sub; received is at most .. for each return; surrendered is at most received (equal if withdrawn)"
+unfoldable pub amountsWithin : Limits → Area → Bool
+amountsWithin most area =
     allOf
-    (leb (area .stock .0) (stockForSub * area .count)
-    ∷ leb (area .received) (receivedForReturn * area .returns)
+    (leb (area .stock .0) (most .stock * area .count)
+    ∷ leb (area .received) (most .received * area .returns)
     ∷ leb (area .surrendered) (area .received)
     ∷ (not (area .withdrawn) || eqb (area .surrendered) (area .received))
     ∷ [])
 
 -- an area's own fields
-unfoldable pub fieldsCarried : Area → Bool
-fieldsCarried area = allOf (leb (area .count) mostSubs ∷ isArea (area .number) ∷ yearsCarried area ∷ amountsCarried area ∷ [])
+unfoldable pub fieldsWithin : Limits → Area → Bool
+fieldsWithin most area = allOf (leb (area .count) (most .subs) ∷ isArea (area .number) ∷ yearsCarried area ∷ amountsWithin most area ∷ [])
 
 -- "a residue's type isn't B, its year lies from opening to latest year, its age is at most 299"
 unfoldable pub residueCarried : Area → Residue → Bool
@@ -64,14 +57,28 @@ subCarried area sub =
     ∷ [])
 
 -- an area whole; "numbers are distinct"
-unfoldable pub areaCarried : Area → Bool
-areaCarried area =
-    allOf (fieldsCarried area ∷ every (subCarried area) (subsOf area) ∷ distinct (λ (sub : Sub). sub .number) (subsOf area) ∷ [])
+unfoldable pub areaWithin : Limits → Area → Bool
+areaWithin most area =
+    allOf (fieldsWithin most area ∷ every (subCarried area) (subsOf area) ∷ distinct (λ (sub : Sub). sub .number) (subsOf area) ∷ [])
 
-unfoldable pub carried : Holding → Bool
-carried holding =
+unfoldable pub carriedWithin : Limits → Holding → Bool
+carriedWithin most holding =
     allOf
     (leb (holding .count) mostAreas
-    ∷ every areaCarried (areasOf holding)
+    ∷ every (areaWithin most) (areasOf holding)
     ∷ distinct (λ (area : Area). area .number) (areasOf holding)
     ∷ [])
+
+-- ---- under the limits in force
+
+abbrev pub amountsCarried : Area → Bool
+amountsCarried = amountsWithin limits
+
+abbrev pub fieldsCarried : Area → Bool
+fieldsCarried = fieldsWithin limits
+
+abbrev pub areaCarried : Area → Bool
+areaCarried = areaWithin limits
+
+abbrev pub carried : Holding → Bool
+carried = carriedWithin limits

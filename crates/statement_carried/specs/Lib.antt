@@ -1,3 +1,5 @@
+pub mod Most
 pub mod Carried
-pub use Carried.{stockForSub, receivedForReturn, oldestResidue}
-unfoldable pub use Carried.{yearsCarried, amountsCarried, fieldsCarried, residueCarried, subCarried, areaCarried, carried}
+pub use Most.{Limits, firstLimits, limits, stockForSub, receivedForReturn}
+pub use Carried.{oldestResidue, amountsCarried, fieldsCarried, areaCarried, carried}
+unfoldable pub use Carried.{yearsCarried, amountsWithin, fieldsWithin, residueCarried, subCarried, areaWithin, carriedWithin}

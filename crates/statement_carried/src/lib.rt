@@ -13,7 +13,7 @@ pub const OLDEST_RESIDUE: u16 = 299;
 
 const STOCK_FOR_SUB: u64 = 60_000_000_000;
 
-const RECEIVED_FOR_RETURN: u64 = 1_000_000_000;
+const RECEIVED_FOR_RETURN: u64 = 3_000_000_000;
 
 fn years(area: Area) -> bool
     ensures { λ r. ⌜ r ≡ yearsCarried area ⌝ }

@@ -1,14 +1,12 @@
-// Whether no number stands twice, and whether no two areas, or sub-areas, bear the same number.
+// Whether no number stands twice, and whether no two areas bear the same number.
 ghost use mathlib.Core.Path.{_≡_};
 ghost use Prim.Native.Nat.{ℕ, min};
 ghost use lib.Dec.{eqb};
 ghost use lib.ListN.{drop};
 ghost use Rattle.laws.specs.{some, distinct};
-ghost use Rattle.holding.specs.{areasOf, subsOf, Sub, Area};
-use holding::Area;
+ghost use Rattle.holding.specs.{areasOf, Area};
 use holding::Holding;
 use holding::MOST_AREAS;
-use holding::MOST_SUBS;
 
 // Whether one of the numbers from a place on is the number.
 fn bears(numbers: &[u16], from: usize, number: u16) -> bool
@@ -37,27 +35,14 @@ pub fn numbers(numbers: &[u16]) -> bool
     apart
 }
 
-fn lesser(a: usize, b: usize) -> usize
+// How many stand of so many places.
+pub fn lesser(a: usize, b: usize) -> usize
     ensures { λ r. ⌜ r ≡ min a b ⌝ }
 {
     if b < a {
         return b;
     }
     a
-}
-
-pub fn subs(area: Area) -> bool
-    ensures { λ r. ⌜ r ≡ distinct (λ (sub : Sub). sub .number) (subsOf area) ⌝ }
-{
-    let n = lesser(area.count, MOST_SUBS);
-    let mut borne = [0u16; MOST_SUBS];
-    let mut i: usize = 0;
-    while i < n {
-        let sub = area.subs[i];
-        borne[i] = sub.number as u16;
-        i += 1;
-    }
-    numbers(&borne[0..n])
 }
 
 pub fn areas(holding: Holding) -> bool

@@ -46,28 +46,21 @@ fn sub(opening: u16, latest: u16, sub: Sub) -> bool
         & residue(opening, latest, left)
 }
 
-fn subs(area: Area) -> bool
-    ensures { λ r. ⌜ r ≡ every (subCarried area) (subsOf area) ⌝ }
-{
-    let n = area.count;
-    let mut kept = true;
-    let mut i: usize = 0;
-    while i < MOST_SUBS {
-        if n <= i {
-            return kept;
-        }
-        let one = area.subs[i];
-        kept = kept & sub(area.opening, area.latest, one);
-        i += 1;
-    }
-    kept
-}
-
-// The conditions of one area.
+// The conditions of one area, its sub-areas gone through once but for their numbers.
 pub fn area(area: Area) -> bool
     ensures { λ r. ⌜ r ≡ areaCarried area ⌝ }
 {
-    statement_carried::fields(area) & subs(area) & statement_distinct::subs(area)
+    let n = statement_distinct::lesser(area.count, MOST_SUBS);
+    let mut kept = statement_carried::fields(area);
+    let mut borne = [0u16; MOST_SUBS];
+    let mut i: usize = 0;
+    while i < n {
+        let one = area.subs[i];
+        kept = kept & sub(area.opening, area.latest, one);
+        borne[i] = one.number as u16;
+        i += 1;
+    }
+    kept & statement_distinct::numbers(&borne[0..n])
 }
 
 fn areas(holding: Holding) -> bool

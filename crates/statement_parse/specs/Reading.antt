@@ -2,7 +2,7 @@
 -- its range judged afterwards. What is accepted so is a carried holding's bytes and no other: `accepts-just-when` (theorem_round_trips).
 use Rattle.laws.specs.{ℕ, zero, suc, _+_, List, eqb, set, replicate, code}
 use Rattle.text.specs.{comma, lineEnd}
-use Rattle.holding.specs.{Sub, Area, mostAreas, mostSubs, emptySub, emptyArea}
+use Rattle.holding.specs.{Sub, Area, mostAreas, mostSubs, emptySub, openedWith}
 use Rattle.statement_cursor.specs.{numberAt, typeAt, startAt, lineAt}
 use Rattle.statement_parse.specs.declared.ResidueRead.{ResidueRead}
 use Rattle.statement_parse.specs.declared.SubRead.{SubRead}
@@ -53,8 +53,9 @@ itemsFrom item next (suc k) i l at = itemsFrom item next k (i + 1) (set l i (ite
 unfoldable pub subsFrom : List ℕ → ℕ → ℕ → List Sub → ℕ → List Sub × ℕ
 subsFrom s = itemsFrom (λ at. subLineAt s at .sub) (λ at. subLineAt s at .next)
 
-unfoldable pub subsAt : List ℕ → ℕ → ℕ → SubsRead
-subsAt s at count = let read = subsFrom s count 0 (replicate mostSubs emptySub) at in record { subs = read .0; next = read .1 }
+-- into so many places
+unfoldable pub subsWithin : ℕ → List ℕ → ℕ → ℕ → SubsRead
+subsWithin places s at count = let read = subsFrom s count 0 (replicate places emptySub) at in record { subs = read .0; next = read .1 }
 
 unfoldable pub yearsAt : List ℕ → ℕ → YearsRead
 yearsAt s at =
@@ -80,12 +81,13 @@ amountsAt s at =
       next = surrendered .next;
     }
 
-unfoldable pub areaLineAt : List ℕ → ℕ → AreaRead
-areaLineAt s at =
+-- an area of at most so many sub-areas
+unfoldable pub areaLineWithin : ℕ → List ℕ → ℕ → AreaRead
+areaLineWithin most s at =
     let years = yearsAt s (lineAt s at (code "A")) in
     let amounts = amountsAt s (years .next) in
-    let count = numberAt s (amounts .next) lineEnd mostSubs in
-    let subs = subsAt s (count .next) (count .value) in
+    let count = numberAt s (amounts .next) lineEnd most in
+    let subs = subsWithin most s (count .next) (count .value) in
     record {
       area = record {
         number = years .number;
@@ -103,14 +105,32 @@ areaLineAt s at =
       next = subs .next;
     }
 
-unfoldable pub areasFrom : List ℕ → ℕ → ℕ → List Area → ℕ → List Area × ℕ
-areasFrom s = itemsFrom (λ at. areaLineAt s at .area) (λ at. areaLineAt s at .next)
+unfoldable pub areasFromWithin : ℕ → List ℕ → ℕ → ℕ → List Area → ℕ → List Area × ℕ
+areasFromWithin most s = itemsFrom (λ at. areaLineWithin most s at .area) (λ at. areaLineWithin most s at .next)
 
-unfoldable pub areasAt : List ℕ → ℕ → ℕ → AreasRead
-areasAt s at count = let read = areasFrom s count 0 (replicate mostAreas emptyArea) at in record { areas = read .0; next = read .1 }
+unfoldable pub areasWithin : ℕ → List ℕ → ℕ → ℕ → AreasRead
+areasWithin most s at count =
+    let read = areasFromWithin most s count 0 (replicate mostAreas (openedWith most 0 0)) at in record { areas = read .0; next = read .1 }
 
-unfoldable pub holdingAt : List ℕ → HoldingRead
-holdingAt s =
+unfoldable pub holdingWithin : ℕ → List ℕ → HoldingRead
+holdingWithin most s =
     let count = numberAt s (startAt s 0 (code "H")) lineEnd mostAreas in
-    let areas = areasAt s (count .next) (count .value) in
+    let areas = areasWithin most s (count .next) (count .value) in
     record { holding = record { count = count .value; areas = areas .areas }; next = areas .next }
+
+-- ---- under the limit in force
+
+abbrev pub subsAt : List ℕ → ℕ → ℕ → SubsRead
+subsAt = subsWithin mostSubs
+
+abbrev pub areaLineAt : List ℕ → ℕ → AreaRead
+areaLineAt = areaLineWithin mostSubs
+
+abbrev pub areasFrom : List ℕ → ℕ → ℕ → List Area → ℕ → List Area × ℕ
+areasFrom = areasFromWithin mostSubs
+
+abbrev pub areasAt : List ℕ → ℕ → ℕ → AreasRead
+areasAt = areasWithin mostSubs
+
+abbrev pub holdingAt : List ℕ → HoldingRead
+holdingAt = holdingWithin mostSubs

@@ -36,6 +36,7 @@ pub struct SubRead {
     pub next: usize,
 }
 
+// The sub-areas of an area, as the definitions have them.
 pub struct SubsRead {
     pub subs: [Sub; MOST_SUBS],
     pub next: usize,
@@ -112,23 +113,6 @@ fn read_sub(s: &[u8], at: usize) -> SubRead
     }
 }
 
-fn read_subs(s: &[u8], at: usize, count: usize) -> SubsRead
-    requires { ⌜ count ≤ mostSubs ⌝ }
-    ensures { λ r. ⌜ r ≡ subsAt (now (s .entry)) at count ⌝ }
-{
-    let mut subs = [holding::empty_sub(); MOST_SUBS];
-    let mut next = at;
-    let mut i: usize = 0;
-    while i < count {
-        let read = read_sub(s, next);
-        let sub = read.sub;
-        subs[i] = sub;
-        next = read.next;
-        i += 1;
-    }
-    SubsRead { subs, next }
-}
-
 // The number and the years of an area's line.
 fn read_years(s: &[u8], at: usize) -> YearsRead
     ensures { λ r. ⌜ r ≡ yearsAt (now (s .entry)) at ⌝ }
@@ -173,25 +157,31 @@ pub fn read_area(s: &[u8], at: usize) -> AreaRead
     let years = read_years(s, start);
     let amounts = read_amounts(s, years.next);
     let count = statement_cursor::number(s, amounts.next, b'\n', SUBS_READ);
-    let read = read_subs(s, count.next, count.value as usize);
+    let n = count.value as usize;
     let stock = amounts.stock;
-    let subs = read.subs;
-    AreaRead {
-        area: Area {
-            number: years.number,
-            opening: years.opening,
-            open_year: years.open_year,
-            latest: years.latest,
-            withdrawn: amounts.withdrawn,
-            returns: amounts.returns,
-            stock,
-            received: amounts.received,
-            surrendered: amounts.surrendered,
-            count: count.value as usize,
-            subs,
-        },
-        next: read.next,
+    let mut area = Area {
+        number: years.number,
+        opening: years.opening,
+        open_year: years.open_year,
+        latest: years.latest,
+        withdrawn: amounts.withdrawn,
+        returns: amounts.returns,
+        stock,
+        received: amounts.received,
+        surrendered: amounts.surrendered,
+        count: n,
+        subs: [holding::empty_sub(); MOST_SUBS],
+    };
+    let mut next = count.next;
+    let mut i: usize = 0;
+    while i < n {
+        let read = read_sub(s, next);
+        let sub = read.sub;
+        area.subs[i] = sub;
+        next = read.next;
+        i += 1;
     }
+    AreaRead { area, next }
 }
 
 fn read_areas(s: &[u8], at: usize, count: usize) -> AreasRead

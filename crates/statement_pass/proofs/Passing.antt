@@ -7,13 +7,13 @@ use Rattle.laws.proofs.Lists.{and-left, and-right}
 use Rattle.refusals.specs.{Refusal, Verdict}
 use Rattle.holding.specs.{Area, Holding, Found, mostAreas, areasOf, emptyArea, emptyHolding, placeFrom, findArea}
 use Rattle.holding_look.specs.{Units, areaAt, lookedUp, unitsOf, unitsIn}
-use Rattle.statement_carried.specs.{areaCarried, carried}
+use Rattle.statement_carried.specs.{areaCarried, carried, carriedWithin}
 use Rattle.laws.proofs.Distinct.{distinct-borne}
 use Rattle.statement_cursor.specs.{NumberField}
 use Rattle.statement_parse.specs.{holdingAt}
 use Rattle.statement_places.specs.{itemsRead, headAt, areaIn, afterArea, placeOf, startOf, endOf}
 use Rattle.statement_places.proofs.Areas.{areas, body, firstAreas, few-areas, counted, areas-read, read-end, area-at, place-next, place-first}
-use Rattle.statement.specs.{Read, accepts, readOf}
+use Rattle.statement.specs.{Read, accepts, readOf, readWithin}
 use Rattle.statement.proofs.Laws.{taken, refused}
 use Rattle.statement_pass.specs.declared.AreasPassed.{AreasPassed}
 use Rattle.statement_pass.specs.{Passed, Sought, soughtFrom, PassesAreas, passedOver}
@@ -75,7 +75,7 @@ module _ (s : List ℕ) (number : ℕ) where
         ∙ ap (distinct (λ (a : Area). a .number)) (sym (areas-read s))
 
     carried-is : carried read ≡ (passed .kept && apart)
-    unfolding carried allOf
+    unfolding carriedWithin allOf
     carried-is =
         rw (ap (λ (n : ℕ). leb n mostAreas) (counted s) ∙ le-leb (areas s) mostAreas (few-areas s))
         (sym (ap (λ (b : Bool). b && apart) (p .kept ∙ ap (every areaCarried) (sym (areas-read s))) ∙ ap (λ (b : Bool). every areaCarried (areasOf read) && b) apart-is))
@@ -116,11 +116,11 @@ module _ (s : List ℕ) (number : ℕ) where
     units-are kept = p .units kept ∙ ap unitsIn (sym (areas-read s))
 
     is-read : accepts s (holdingAt s) ≡ true → record { verdict = Verdict.Accepted; holding = read } ≡ readOf s
-    unfolding readOf
+    unfolding readWithin
     is-read e = taken s (holdingAt s) e
 
     is-turned : accepts s (holdingAt s) ≡ false → record { verdict = Verdict.Refused Refusal.CarriedStatement; holding = emptyHolding } ≡ readOf s
-    unfolding readOf
+    unfolding readWithin
     is-turned e = refused s (holdingAt s) emptyHolding refl e
 
     pub passed-clear : (((ltb 0 (passed .next) && eqb (passed .next) (length s)) && passed .kept) && apart) ≡ true

@@ -2,9 +2,9 @@
 -- between two places are the texts of the areas that stand there.
 use Rattle.laws.proofs.{ℕ, suc, _+_, _-_, _≤_, _<_, _≡_, refl, sym, ap, subst, _∙_, List, _∷_, _++_, arith, length, take, drop, getD, replicate, length-replicate}
 use lib.Seq.{getD-take, take-at, length-sets}
-use Rattle.holding.specs.{Area, mostAreas, areasOf, emptyArea}
+use Rattle.holding.specs.{Area, mostAreas, mostSubs, areasOf, emptyArea}
 use Rattle.statement_format.specs.{texts, areaText}
-use Rattle.statement_parse.specs.{areasFrom, areasAt, holdingAt}
+use Rattle.statement_parse.specs.{areasFromWithin, areasWithin, holdingAt, holdingWithin}
 use Rattle.statement_places.specs.{itemsRead, placeAfter, headAt, areaIn, afterArea, placeOf}
 use Rattle.statement_places.proofs.Places.{Stands, There}
 use Rattle.statement_places.proofs.Values.{number-small}
@@ -30,15 +30,15 @@ module _ (s : List ℕ) where
   few-areas = number-small s _ 10 mostAreas
 
   pub counted : holdingAt s .holding .count ≡ areas
-  unfolding holdingAt headAt
+  unfolding holdingWithin headAt
   counted = refl
 
   pub areas-read : areasOf (holdingAt s .holding) ≡ firstAreas areas
-  unfolding holdingAt areasAt areasFrom headAt
+  unfolding holdingWithin areasWithin areasFromWithin headAt
   areas-read = filled-stands (areaIn s) (afterArea s) emptyArea mostAreas (headAt s .value) (headAt s .next) few-areas
 
   pub read-end : holdingAt s .next ≡ placeOf s areas
-  unfolding holdingAt areasAt areasFrom headAt placeOf
+  unfolding holdingWithin areasWithin areasFromWithin headAt placeOf
   read-end = filled-place (areaIn s) (afterArea s) emptyArea mostAreas (headAt s .value) (headAt s .next)
 
   pub area-at : (k : ℕ) → k < areas → getD (holdingAt s .holding .areas) k emptyArea ≡ areaIn s (placeOf s k)
@@ -61,7 +61,7 @@ module _ (s : List ℕ) where
   behind-more k h = let one : areas - k ≡ suc (areas - (k + 1)) = omega arith in rw (one, place-next k)
 
   pub all-places : length (holdingAt s .holding .areas) ≡ mostAreas
-  unfolding holdingAt areasAt areasFrom headAt
+  unfolding holdingWithin areasWithin areasFromWithin headAt
   all-places =
       ap length (filled-list (areaIn s) (afterArea s) emptyArea mostAreas (headAt s .value) (headAt s .next))
       ∙ length-sets (replicate mostAreas emptyArea) 0 (itemsRead (areaIn s) (afterArea s) (headAt s .value) (headAt s .next))
@@ -81,14 +81,14 @@ module _ (s : List ℕ) where
         let end : placeAfter (afterArea s) (areas - k) (placeOf s k) ≡ placeOf s areas =
         sym (after-split (afterArea s) k (areas - k) body) ∙ ap (placeOf s) all in
         subst (There s (placeOf s k) (texts areaText (areasBehind k))) end
-        (items-there (areaIn s) (afterArea s) s areaText (area-there s) (areas - k) (placeOf s k) (rw end ends))
+        (items-there (areaIn s) (afterArea s) s areaText (area-there mostSubs s) (areas - k) (placeOf s k) (rw end ends))
 
     pub behind-stand : Stands s (placeOf s k) (texts areaText (areasBehind k)) (placeOf s areas)
     behind-stand = behind-there .stands
 
     pub first-stand : Stands s body (texts areaText (firstAreas k)) (placeOf s k)
     unfolding placeOf
-    first-stand = items-there (areaIn s) (afterArea s) s areaText (area-there s) k body (behind-there .started) .stands
+    first-stand = items-there (areaIn s) (afterArea s) s areaText (area-there mostSubs s) k body (behind-there .started) .stands
 
 -- the bytes between two places, and behind a place up to the end, are what stands there
 pub part-stands : {s bytes : List ℕ} {at next : ℕ} → Stands s at bytes next → take (next - at) (drop at s) ≡ bytes

@@ -1,10 +1,10 @@
 -- What is read stands in the bytes as the writer writes it: each field stands where it was read, and the fields follow one another.
 use Rattle.laws.proofs.{ℕ, zero, suc, _≤_, _<_, _≡_, refl, subst, List, arith, eqb, take}
-use Rattle.holding.specs.{mostSubs, emptySub}
+use Rattle.holding.specs.{emptySub}
 use Rattle.statement_format.specs.{numberText, joined, texts, flag, residueText, subText, yearsText, amountsText, areaText}
 use Rattle.statement_format.proofs.Residues.{sub-text}
 use Rattle.statement_cursor.specs.{numberAt}
-use Rattle.statement_parse.specs.{most8, most16, most32, mostRead, residueAt, subLineAt, subsFrom, subsAt, yearsAt, amountsAt, areaLineAt}
+use Rattle.statement_parse.specs.{most8, most16, most32, mostRead, residueAt, subLineAt, subsFrom, subsWithin, yearsAt, amountsAt, areaLineWithin}
 use Rattle.statement_places.proofs.Places.{There, stands-none, stands-then}
 use Rattle.statement_places.proofs.Values.{number-there, number-small, type-there}
 use Rattle.statement_places.proofs.Starts.{line-there}
@@ -53,17 +53,17 @@ module _ (s : List ℕ) (at : ℕ) where
       let field = numberAt s at 44 1 in
       subst (λ (v : ℕ). There s at (numberText v 44) (field .next)) (flag-back (field .value) (number-small s at 44 1)) (number-there s at 44 1 h)
 
-  subs-there : (count : ℕ) → count ≤ mostSubs → 0 < subsAt s at count .next
-      → There s at (texts subText (take count (subsAt s at count .subs))) (subsAt s at count .next)
-  unfolding subsAt subsFrom
-  subs-there count room h = filled-there (λ p. subLineAt s p .sub) (λ p. subLineAt s p .next) s subText (sub-there s) emptySub mostSubs count at room h
+  subs-there : (most count : ℕ) → count ≤ most → 0 < subsWithin most s at count .next
+      → There s at (texts subText (take count (subsWithin most s at count .subs))) (subsWithin most s at count .next)
+  unfolding subsWithin subsFrom
+  subs-there most count room h = filled-there (λ p. subLineAt s p .sub) (λ p. subLineAt s p .next) s subText (sub-there s) emptySub most count at room h
 
-module _ (s : List ℕ) (at : ℕ) where
-  pub area-there : 0 < areaLineAt s at .next → There s at (areaText (areaLineAt s at .area)) (areaLineAt s at .next)
-  unfolding areaLineAt yearsAt amountsAt areaText yearsText amountsText joined
+module _ (most : ℕ) (s : List ℕ) (at : ℕ) where
+  pub area-there : 0 < areaLineWithin most s at .next → There s at (areaText (areaLineWithin most s at .area)) (areaLineWithin most s at .next)
+  unfolding areaLineWithin yearsAt amountsAt areaText yearsText amountsText joined
   area-there h =
-      let subs = subs-there s _ _ (number-small s _ 10 mostSubs) h in
-      let count = number-there s _ 10 mostSubs (subs .started) in
+      let subs = subs-there s _ most _ (number-small s _ 10 most) h in
+      let count = number-there s _ 10 most (subs .started) in
       let surrendered = number-there s _ 44 mostRead (count .started) in
       let received = number-there s _ 44 mostRead (surrendered .started) in
       let stock = number-there s _ 44 mostRead (received .started) in

@@ -1,11 +1,8 @@
-// The lines of an area's sub-areas, written into a lent buffer at any place.
-ghost use Prim.Native.Nat.{_*_};
-ghost use Rattle.statement_format.specs.{typeText, texts, residueText, subText, typeWidth, residueWidth, subWidth};
-ghost use Rattle.holding.specs.{mostSubs, subsOf};
+// The line of a sub-area, written into a lent buffer at any place.
+ghost use Rattle.statement_format.specs.{typeText, residueText, subText, typeWidth, residueWidth, subWidth};
 ghost use Rattle.statement_field.specs.{Put};
 ghost use Rattle.text.specs.{lineEnd};
 use forest::Forest;
-use holding::Area;
 use holding::MOST_SUBS;
 use holding::Residue;
 use holding::Sub;
@@ -49,7 +46,8 @@ fn put_residue(out: &mut [u8], at: usize, residue: Residue) -> usize
     statement_field::put_short(out, next, residue.year, b'\n')
 }
 
-fn put_sub(out: &mut [u8], at: usize, sub: Sub) -> usize
+// Puts a sub-area's line; the answer is the place after what was put.
+pub fn put_sub(out: &mut [u8], at: usize, sub: Sub) -> usize
     ensures { λ r. ⌜ Put subWidth (now (out .entry)) at (subText sub) (now (out .exit)) r ⌝ }
 {
     let tenths = sub.tenths;
@@ -61,22 +59,4 @@ fn put_sub(out: &mut [u8], at: usize, sub: Sub) -> usize
     let next = put_type(out, next, forest, b',');
     let next = statement_field::put_short(out, next, sub.planted, b',');
     put_residue(out, next, residue)
-}
-
-// Puts the lines of an area's sub-areas, in order of adding; the answer is the place after what was put.
-pub fn put_subs(out: &mut [u8], at: usize, area: Area) -> usize
-    ensures { λ r. ⌜ Put (subWidth * mostSubs) (now (out .entry)) at (texts subText (subsOf area)) (now (out .exit)) r ⌝ }
-{
-    let n = area.count;
-    let mut next = at;
-    let mut i: usize = 0;
-    while i < MOST_SUBS {
-        if n <= i {
-            return next;
-        }
-        let sub = area.subs[i];
-        next = put_sub(out, next, sub);
-        i += 1;
-    }
-    next
 }

@@ -10,6 +10,7 @@ ghost use Rattle.statement_write.specs.{writable};
 use holding::Area;
 use holding::Holding;
 use holding::MOST_AREAS;
+use holding::MOST_SUBS;
 use refusals::Refusal;
 use refusals::Written;
 use statement_field::LONG_WIDTH;
@@ -59,8 +60,18 @@ pub fn put_area(out: &mut [u8], at: usize, area: Area) -> usize
     let next = statement_field::put_start(out, at, b'A');
     let next = put_years(out, next, area);
     let next = put_amounts(out, next, area);
-    let next = statement_field::put_field(out, next, area.count as u64, b'\n');
-    statement_sub::put_subs(out, next, area)
+    let n = area.count;
+    let mut next = statement_field::put_field(out, next, n as u64, b'\n');
+    let mut i: usize = 0;
+    while i < MOST_SUBS {
+        if n <= i {
+            return next;
+        }
+        let sub = area.subs[i];
+        next = statement_sub::put_sub(out, next, sub);
+        i += 1;
+    }
+    next
 }
 
 // Puts the holding's statement at a place; the answer is the place after it. The holding is handed on to no other function, and so copied once.

@@ -1,6 +1,5 @@
 // A step of a holding: an act on the area that it names.
 ghost use mathlib.Core.Path.{_≡_};
-ghost use Rattle.schedules.specs.{schedule6};
 ghost use Rattle.step.specs.{looksUp, acted, stepped};
 use holding::Holding;
 use holding_look::Looked;
@@ -9,8 +8,8 @@ use line_entry::AreaAct;
 use refusals::Verdict;
 use step_outcome::Outcome;
 
-// Whether an act may look a rate up.
-fn looks_up(act: Act) -> bool
+// Whether an act may look a rate up: any other is the same under any default table.
+pub fn looks_up(act: Act) -> bool
     ensures { λ r. ⌜ r ≡ looksUp act ⌝ }
 {
     match act {
@@ -49,17 +48,6 @@ pub fn apply_to<'a>(own: &'a [u16], default: &'a [u16], looked: Looked, act: Act
         Act::File { last } => step_file::file(own, default, looked, last),
         Act::Withdraw => step_withdraw::withdraw(looked),
     }
-}
-
-// An act on the area that was looked up, under Schedule 6, which is laid out only for an act that may look a rate up.
-pub fn act_on(own: &[u16], looked: Looked, act: Act) -> Outcome
-    ensures { λ r. ⌜ r ≡ acted (now (own .entry)) schedule6 looked act ⌝ }
-{
-    if looks_up(act) {
-        let default = schedules::schedule_six();
-        return apply_to(own, &default, looked, act);
-    }
-    apply_to(own, &own[0..0], looked, act)
 }
 
 // A step of a holding under a participant's table, which is judged; Schedule 6 serves where it has no column.

@@ -13,7 +13,7 @@ use Rattle.stocks.specs.{subStock}
 abbrev pub newSub : ℕ → Tenths → Forest → ℕ → Sub
 newSub number land forest planted = record { number = number; tenths = land; forest = forest; planted = planted; residue = noResidue }
 
--- "25 sub already used; 26 sixteen subs stand; 27 area has filed"; "32 planted after opening", of an area that was looked up
+-- "25 sub already used; 26 sixteen subs stand; 27 area has filed"; "number 26 is then given at 48"; "32 planted after opening", of an area that was looked up
 unfoldable pub addCases : ℕ → Sub → Found → Area → List Case
 addCases number sub found area =
     not (isArea number && isSub (sub .number)) ⇒ Refusal.AreaOrSubNumber

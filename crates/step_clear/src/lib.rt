@@ -1,23 +1,29 @@
 // C clears a sub-area: its trees become its residue.
 ghost use mathlib.Core.Path.{_≡_};
 ghost use Rattle.refusals.specs.{smallest};
-ghost use Rattle.step_clear.specs.{clearCases, clearedSub, clearedArea, cleared};
+ghost use Rattle.holding.specs.{findSub};
+ghost use Rattle.holding_look.specs.{subAt};
+ghost use Rattle.step_clear.specs.{clearCases, clearedSub, cleared};
 use forest::Forest;
 use holding::Area;
 use holding::Found;
 use holding::Residue;
 use holding::Sub;
 use holding_look::Looked;
+use holding_look::Stand;
 use refusals::Refusal;
 use refusals::Verdict;
 use step_outcome::Outcome;
 use step_outcome::Report;
 
-fn verdict(number: u16, sub: u8, year: u16, found: Found, area: Area) -> Verdict
+// By the sub-area as it stands.
+fn verdict(number: u16, sub: u8, year: u16, found: Found, area: Area, stand: Stand) -> Verdict
+    requires { ⌜ (stand .found ≡ findSub area sub) × (stand .sub ≡ subAt area (findSub area sub)) ⌝ }
     ensures { λ r. ⌜ r ≡ smallest (clearCases number sub year found area) ⌝ }
 {
-    let stand = holding::find_sub(area, sub);
-    let forest = holding_look::sub_at(area, stand).forest;
+    let at = stand.found;
+    let before = stand.sub;
+    let forest = before.forest;
     let v = refusals::weigh(
         Verdict::Accepted,
         !(ranges::is_area(number) & ranges::is_sub(sub)),
@@ -25,7 +31,7 @@ fn verdict(number: u16, sub: u8, year: u16, found: Found, area: Area) -> Verdict
     );
     let v = refusals::weigh(v, !ranges::is_year(year), Refusal::YearRange);
     let v = step_outcome::weigh_area(v, found, area);
-    let v = refusals::weigh(v, !holding_look::is_known(stand), Refusal::SubUnknown);
+    let v = refusals::weigh(v, !holding_look::is_known(at), Refusal::SubUnknown);
     let v = refusals::weigh(v, ranges::is_bare(forest), Refusal::ClearingBareLand);
     refusals::weigh(
         v,
@@ -49,20 +55,15 @@ fn cleared_sub(sub: Sub, year: u16) -> Sub
     }
 }
 
-fn cleared_area(area: Area, sub: u8, year: u16) -> Area
-    ensures { λ r. ⌜ r ≡ clearedArea area sub year ⌝ }
-{
-    let stand = holding::find_sub(area, sub);
-    let before = holding_look::sub_at(area, stand);
-    holding_look::with_sub(area, stand, cleared_sub(before, year), year)
-}
-
 pub fn clear(looked: Looked, sub: u8, year: u16) -> Outcome
     ensures { λ r. ⌜ r ≡ cleared looked sub year ⌝ }
 {
     let found = looked.found;
     let area = looked.area;
-    let v = verdict(looked.number, sub, year, found, area);
+    let stand = holding_look::find_stand(area, sub);
+    let at = stand.found;
+    let before = stand.sub;
+    let v = verdict(looked.number, sub, year, found, area, stand);
     match v {
         Verdict::Refused(refusal) => step_outcome::turned(refusal),
         Verdict::Accepted => Outcome {
@@ -70,7 +71,7 @@ pub fn clear(looked: Looked, sub: u8, year: u16) -> Outcome
             report: Report::Nothing,
             place: found,
             count: looked.count,
-            area: cleared_area(area, sub, year),
+            area: holding_look::with_sub(area, at, cleared_sub(before, year), year),
         },
     }
 }

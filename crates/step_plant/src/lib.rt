@@ -1,22 +1,36 @@
 // P plants a sub-area that has no trees.
 ghost use mathlib.Core.Path.{_≡_};
 ghost use Rattle.refusals.specs.{smallest};
-ghost use Rattle.step_plant.specs.{plantCases, plantedSub, plantedArea, planted};
+ghost use Rattle.holding.specs.{findSub};
+ghost use Rattle.holding_look.specs.{subAt};
+ghost use Rattle.step_plant.specs.{plantCases, plantedSub, planted};
 use forest::Forest;
 use holding::Area;
 use holding::Found;
 use holding::Sub;
 use holding_look::Looked;
+use holding_look::Stand;
 use refusals::Refusal;
 use refusals::Verdict;
 use step_outcome::Outcome;
 use step_outcome::Report;
 
-fn verdict(number: u16, sub: u8, forest: Forest, year: u16, found: Found, area: Area) -> Verdict
+// By the sub-area as it stands.
+fn verdict(
+    number: u16,
+    sub: u8,
+    forest: Forest,
+    year: u16,
+    found: Found,
+    area: Area,
+    stand: Stand,
+) -> Verdict
+    requires { ⌜ (stand .found ≡ findSub area sub) × (stand .sub ≡ subAt area (findSub area sub)) ⌝ }
     ensures { λ r. ⌜ r ≡ smallest (plantCases number sub forest year found area) ⌝ }
 {
-    let stand = holding::find_sub(area, sub);
-    let standing = holding_look::sub_at(area, stand).forest;
+    let at = stand.found;
+    let before = stand.sub;
+    let standing = before.forest;
     let v = refusals::weigh(
         Verdict::Accepted,
         !(ranges::is_area(number) & ranges::is_sub(sub)),
@@ -25,7 +39,7 @@ fn verdict(number: u16, sub: u8, forest: Forest, year: u16, found: Found, area: 
     let v = refusals::weigh(v, ranges::is_bare(forest), Refusal::ForestType);
     let v = refusals::weigh(v, !ranges::is_year(year), Refusal::YearRange);
     let v = step_outcome::weigh_area(v, found, area);
-    let v = refusals::weigh(v, !holding_look::is_known(stand), Refusal::SubUnknown);
+    let v = refusals::weigh(v, !holding_look::is_known(at), Refusal::SubUnknown);
     let v = refusals::weigh(v, !ranges::is_bare(standing), Refusal::PlantingUnderTrees);
     refusals::weigh(
         v,
@@ -48,20 +62,15 @@ fn planted_sub(sub: Sub, forest: Forest, year: u16) -> Sub
     }
 }
 
-fn planted_area(area: Area, sub: u8, forest: Forest, year: u16) -> Area
-    ensures { λ r. ⌜ r ≡ plantedArea area sub forest year ⌝ }
-{
-    let stand = holding::find_sub(area, sub);
-    let before = holding_look::sub_at(area, stand);
-    holding_look::with_sub(area, stand, planted_sub(before, forest, year), year)
-}
-
 pub fn plant(looked: Looked, sub: u8, forest: Forest, year: u16) -> Outcome
     ensures { λ r. ⌜ r ≡ planted looked sub forest year ⌝ }
 {
     let found = looked.found;
     let area = looked.area;
-    let v = verdict(looked.number, sub, forest, year, found, area);
+    let stand = holding_look::find_stand(area, sub);
+    let at = stand.found;
+    let before = stand.sub;
+    let v = verdict(looked.number, sub, forest, year, found, area, stand);
     match v {
         Verdict::Refused(refusal) => step_outcome::turned(refusal),
         Verdict::Accepted => Outcome {
@@ -69,7 +78,7 @@ pub fn plant(looked: Looked, sub: u8, forest: Forest, year: u16) -> Outcome
             report: Report::Nothing,
             place: found,
             count: looked.count,
-            area: planted_area(area, sub, forest, year),
+            area: holding_look::with_sub(area, at, planted_sub(before, forest, year), year),
         },
     }
 }

@@ -15,7 +15,7 @@ use Rattle.stocks.specs.{treesOn, oneResidueOn, residueOn, subStock, areaStock}
 use Rattle.line_entry.specs.{Act, AreaAct, on}
 use Rattle.holding.specs.{emptyHolding, placeFrom, findArea, findSub, residuesIn}
 use Rattle.holding_look.specs.{areaAt, subAt, withSub}
-use Rattle.statement_carried.specs.{yearsCarried, amountsCarried, fieldsCarried}
+use Rattle.statement_carried.specs.{yearsCarried, amountsWithin, fieldsWithin}
 use Rattle.step_outcome.specs.{answered, placed, areaCases}
 use Rattle.step_open.specs.{openCases, opened}
 use Rattle.step_add.specs.{addCases, addedArea, added}
@@ -69,5 +69,5 @@ AllHold [] = Unit
 AllHold (e ∷ es) = (reportedFrom (e .area) nothingReported (outcomesFrom (e .table) emptyHolding (e .entries)) ≡ e .reported) × AllHold es
 
 pub examples-hold : AllHold examples
-unfolding allOf sumOf eachAtMost sumBy weighed weighAll smallest treesOf residueOf tonnes value changeBetween placeSix schedule6 hasColumns isTable judged widthTo lettersOf columnNumber lengthOf ownColumn consulted cellAt rateSix shareAfter treesOn residuesIn oneResidueOn residueOn subStock areaStock placeFrom findArea findSub areaAt subAt withSub yearsCarried amountsCarried fieldsCarried answered placed areaCases openCases opened addCases addedArea added clearCases clearedSub clearedArea cleared plantCases plantedSub plantedArea planted fileCases changeOf filedArea returnOf filed withdrawCases withdrawnArea withdrawn applied stepped outcomesFrom reportedWith reportedFrom
+unfolding allOf sumOf eachAtMost sumBy weighed weighAll smallest treesOf residueOf tonnes value changeBetween placeSix schedule6 hasColumns isTable judged widthTo lettersOf columnNumber lengthOf ownColumn consulted cellAt rateSix shareAfter treesOn residuesIn oneResidueOn residueOn subStock areaStock placeFrom findArea findSub areaAt subAt withSub yearsCarried amountsWithin fieldsWithin answered placed areaCases openCases opened addCases addedArea added clearCases clearedSub clearedArea cleared plantCases plantedSub plantedArea planted fileCases changeOf filedArea returnOf filed withdrawCases withdrawnArea withdrawn applied stepped outcomesFrom reportedWith reportedFrom
 examples-hold = (refl, (refl, tt))

@@ -16,7 +16,7 @@ use Rattle.stocks.specs.{treesOn, oneResidueOn, residueOn, subStock, areaStock}
 use Rattle.line_entry.specs.{Act, on}
 use Rattle.holding.specs.{placeFrom, findArea, findSub, residuesIn}
 use Rattle.holding_look.specs.{areaAt, subAt, withSub}
-use Rattle.statement_carried.specs.{yearsCarried, amountsCarried, fieldsCarried, residueCarried, subCarried, areaCarried, carried}
+use Rattle.statement_carried.specs.{yearsCarried, amountsWithin, fieldsWithin, residueCarried, subCarried, areaWithin, carriedWithin}
 use Rattle.step_outcome.specs.{Outcome, answered, placed, areaCases}
 use Rattle.step_open.specs.{openCases, opened}
 use Rattle.step_add.specs.{addCases, addedArea, added}
@@ -29,9 +29,9 @@ use Rattle.theorem_accounts.specs.{reportedWith, reportedFrom}
 use Rattle.statement_format.specs.{startText, numberText, typeText, joined, texts, residueText, residuesText, subText, yearsText, amountsText, areaText, statementOf}
 use Rattle.statement_write.specs.{writable}
 use Rattle.statement_cursor.specs.{fieldOf, fieldBy, numberBefore, numberAt, typeBefore, typeAt, startAt, lineAt}
-use Rattle.statement_parse.specs.{residueAt, itemsFrom, subsFrom, subsAt, yearsAt, amountsAt, areasFrom, areasAt, holdingAt}
+use Rattle.statement_parse.specs.{residueAt, itemsFrom, subsFrom, subsWithin, yearsAt, amountsAt, areasFromWithin, areasWithin, holdingWithin}
 use Rattle.statement_parse.specs.Reading as Reading
-use Rattle.statement.specs.{acceptable, readOf}
+use Rattle.statement.specs.{acceptableWithin, readWithin}
 use Rattle.theorem_demand_three.specs.{Step, resultOf, holdingFrom, outcomesFrom, holdingAfter, outcomesOf, reportedFor}
 
 abbrev table : List ℕ
@@ -80,5 +80,5 @@ pub record Printed : Type 0 where
   pub statement : statementOf (holdingAfter table steps) ≡ joined pieces
 
 pub printed-case : Printed
-unfolding allOf some every distinct sumOf eachAtMost sumBy weighed weighAll smallest written bufferAfter treesOf residueOf tonnes value changeBetween lettersOf beside letterNames regionNames named placeSix schedule6 hasColumns isTable judged columnNumber lengthOf ownColumn consulted cellAt rateSix shareAfter digitsIn digits append more headed numberIn treesOn residuesIn oneResidueOn residueOn subStock areaStock placeFrom findArea findSub areaAt subAt withSub yearsCarried amountsCarried fieldsCarried residueCarried subCarried areaCarried carried answered placed areaCases openCases opened addCases addedArea added clearCases clearedSub clearedArea cleared plantCases plantedSub plantedArea planted fileCases changeOf filedArea returnOf filed withdrawCases withdrawnArea withdrawn applied stepped reportedWith reportedFrom startText numberText typeText joined texts residueText residuesText subText yearsText amountsText areaText statementOf writable widthTo fieldOf fieldBy numberBefore numberAt typeBefore typeAt startAt lineAt residueAt Reading.subLineAt itemsFrom subsFrom subsAt yearsAt amountsAt Reading.areaLineAt areasFrom areasAt holdingAt acceptable readOf resultOf holdingFrom outcomesFrom
+unfolding allOf some every distinct sumOf eachAtMost sumBy weighed weighAll smallest written bufferAfter treesOf residueOf tonnes value changeBetween lettersOf beside letterNames regionNames named placeSix schedule6 hasColumns isTable judged columnNumber lengthOf ownColumn consulted cellAt rateSix shareAfter digitsIn digits append more headed numberIn treesOn residuesIn oneResidueOn residueOn subStock areaStock placeFrom findArea findSub areaAt subAt withSub yearsCarried amountsWithin fieldsWithin residueCarried subCarried areaWithin carriedWithin answered placed areaCases openCases opened addCases addedArea added clearCases clearedSub clearedArea cleared plantCases plantedSub plantedArea planted fileCases changeOf filedArea returnOf filed withdrawCases withdrawnArea withdrawn applied stepped reportedWith reportedFrom startText numberText typeText joined texts residueText residuesText subText yearsText amountsText areaText statementOf writable widthTo fieldOf fieldBy numberBefore numberAt typeBefore typeAt startAt lineAt residueAt Reading.subLineAt itemsFrom subsFrom subsWithin yearsAt amountsAt Reading.areaLineWithin areasFromWithin areasWithin holdingWithin acceptableWithin readWithin resultOf holdingFrom outcomesFrom
 printed-case = record { verdicts = refl; reported = refl; statement = refl }

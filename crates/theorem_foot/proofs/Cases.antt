@@ -2,6 +2,7 @@
 -- A refused line and T leave the holding; an opening places its area behind those that stand; and every other act puts the area that it found back at its
 -- place.
 use Rattle.laws.proofs.{ℕ, _+_, _<_, true, _≡_, refl, sym, List, [], _∷_, _++_, add-one, arith, not-false, leb-false, length, getD, set, length-take, getD-take}
+use Rattle.laws.proofs.Elements.{clash}
 use lib.Seq.{take-set-lt, take-suc-set}
 use Rattle.refusals.specs.{Case, smallest, Verdict}
 use Rattle.refusals.proofs.Laws.{ruled-out}
@@ -20,7 +21,6 @@ use Rattle.step_withdraw.specs.{withdrawCases, withdrawnArea, withdrawn}
 use Rattle.step.specs.{acted, applied}
 use Rattle.book_listing.specs.{columnTaken, entryTaken, parsedTaken, lineTaken}
 use Rattle.theorem_keeping.specs.{Kept}
-use Rattle.theorem_keeping.proofs.Tests.{clash}
 use Rattle.theorem_keeping.proofs.Areas.{areaNumber, AreasKept, kept-areas}
 use Rattle.theorem_keeping.proofs.Register.{unknown, found-inside}
 use Rattle.theorem_foot.proofs.Reported.{receivedIn, dueIn, balanceIn, Names}

@@ -2,6 +2,7 @@
 -- within what one more sub-area allows.
 use Rattle.laws.proofs.{ℕ, _+_, _*_, _≤_, true, false, _&&_, _≡_, refl, List, arith, not-false, leb-false, ltb-false}
 use Rattle.laws.proofs.Lists.{and-right}
+use Rattle.laws.proofs.Elements.{clash}
 use Rattle.refusals.specs.{smallest, Verdict}
 use Rattle.units.specs.{Tenths}
 use Rattle.forest.specs.{Forest}
@@ -14,7 +15,6 @@ use Rattle.statement_carried.specs.{stockForSub}
 use Rattle.step_outcome.specs.{areaCases, placed}
 use Rattle.stocks.specs.{subStock}
 use Rattle.step_add.specs.{newSub, addCases, addedArea, added}
-use Rattle.theorem_keeping.proofs.Tests.{clash}
 use Rattle.theorem_keeping.proofs.Within.{land-within}
 use Rattle.theorem_keeping.proofs.Register.{unknown, register-more}
 use Rattle.theorem_keeping.proofs.Subs.{ResidueKept, SubKept}

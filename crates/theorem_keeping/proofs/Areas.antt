@@ -2,7 +2,7 @@
 use Rattle.laws.proofs.{ℕ, true, _≡_, List, leb-true, le-leb}
 use Rattle.laws.proofs.Tests.{AllTrue, all-true, true-all}
 use Rattle.holding.specs.{Sub, Area, Holding, mostAreas, mostSubs, areasOf, subsOf, emptySub, emptyArea}
-use Rattle.statement_carried.specs.{subCarried, areaCarried, carried}
+use Rattle.statement_carried.specs.{subCarried, areaCarried, areaWithin, carriedWithin}
 use Rattle.theorem_keeping.specs.{TidyArea, Kept}
 use Rattle.theorem_keeping.proofs.Lists.{each-so, each-both, every-each, each-every}
 use Rattle.theorem_keeping.proofs.Register.{Register}
@@ -28,7 +28,7 @@ AreasKept holding = Register areaNumber emptyArea AreaKept mostAreas (holding .c
 
 module _ (area : Area) where
   area-read : areaCarried area ≡ true → TidyArea area → AreaKept area
-  unfolding areaCarried AllTrue
+  unfolding areaWithin AllTrue
   area-read e tidy =
       let t = all-true _ e in
       let fields = fields-read area (t .0) in
@@ -43,14 +43,14 @@ module _ (area : Area) where
       }
 
   area-carried : AreaKept area → areaCarried area ≡ true
-  unfolding areaCarried AllTrue
+  unfolding areaWithin AllTrue
   area-carried k =
       let all = each-every (subCarried area) (subsOf area) (each-so _ _ (sub-carried area) (subsOf area) (k .subs .each)) in
       true-all _ (fields-carried area (k .subs .room) (k .fields), (all, (k .subs .apart, tt)))
 
 module _ (holding : Holding) where
   pub kept-areas : Kept holding → AreasKept holding
-  unfolding carried AllTrue
+  unfolding carriedWithin AllTrue
   kept-areas k =
       let t = all-true _ (k .carries) in
       record {
@@ -61,7 +61,7 @@ module _ (holding : Holding) where
       }
 
   pub areas-kept : AreasKept holding → Kept holding
-  unfolding carried AllTrue
+  unfolding carriedWithin AllTrue
   areas-kept k =
       let all = each-every areaCarried (areasOf holding) (each-so _ _ area-carried (areasOf holding) (k .each)) in
       record {

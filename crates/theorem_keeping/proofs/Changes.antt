@@ -1,11 +1,11 @@
 -- Every step but an opening changes the one area that it looked up: if the verdict is clear, that area stands and is kept, and put back under its
 -- number it leaves the others as they were.
 use Rattle.laws.proofs.{ℕ, true, _≡_, refl, sym, List}
+use Rattle.laws.proofs.Elements.{clash}
 use Rattle.refusals.specs.{Case, smallest, Verdict}
 use Rattle.holding.specs.{Area, Holding, Found, emptyArea, findArea}
 use Rattle.holding_look.specs.{known, areaAt}
 use Rattle.step_outcome.specs.{Report, accepted, answered, placedAt, placed}
-use Rattle.theorem_keeping.proofs.Tests.{clash}
 use Rattle.theorem_keeping.proofs.Register.{register-at, register-put}
 use Rattle.theorem_keeping.proofs.Areas.{AreaKept, AreasKept}
 use Rattle.theorem_keeping.proofs.Answers.{answer-has}

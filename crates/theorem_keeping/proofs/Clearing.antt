@@ -1,12 +1,12 @@
 -- A clearing leaves bare land and a residue of its year. The trees were planted from 1900 on and the year is at most 2199, so they are at most 299 years old.
 use Rattle.laws.proofs.{ℕ, _≤_, true, false, _≡_, refl, sym, _∙_, arith, not-false}
+use Rattle.laws.proofs.Elements.{clash}
 use Rattle.refusals.specs.{smallest, Verdict}
 use Rattle.ranges.specs.{isBare, isYear}
 use Rattle.holding.specs.{Sub, Area, Found, Holding, findSub}
 use Rattle.holding_look.specs.{known, subAt, withSub, lookedUp}
 use Rattle.step_outcome.specs.{areaCases, placed}
 use Rattle.step_clear.specs.{clearCases, clearedSub, clearedArea, cleared}
-use Rattle.theorem_keeping.proofs.Tests.{clash}
 use Rattle.theorem_keeping.proofs.Within.{year-within, planted-within, not-before}
 use Rattle.theorem_keeping.proofs.Subs.{SubKept}
 use Rattle.theorem_keeping.proofs.Areas.{AreasKept}

@@ -20,7 +20,7 @@ use Rattle.step.specs.{acted, applied, stepped}
 use Rattle.step.proofs.Entered.{step-is, step-turned}
 use Rattle.theorem_keeping.specs.{Kept}
 use Rattle.laws.proofs.Lists.{and-left, and-right, both}
-use Rattle.theorem_keeping.proofs.Tests.{clash}
+use Rattle.laws.proofs.Elements.{clash}
 use Rattle.theorem_keeping.proofs.Fields.{fields-carried}
 use Rattle.theorem_keeping.proofs.Areas.{AreasKept, kept-areas}
 use Rattle.theorem_keeping.proofs.Changes.{area-found}

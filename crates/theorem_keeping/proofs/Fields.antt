@@ -3,7 +3,7 @@ use Rattle.laws.proofs.{ℕ, _+_, _*_, _≤_, Bool, true, _||_, _≡_, arith, e
 use Rattle.laws.proofs.Tests.{AllTrue, all-true, true-all}
 use Rattle.ranges.specs.{lastYear, isArea, isYear}
 use Rattle.holding.specs.{Area, mostSubs}
-use Rattle.statement_carried.specs.{stockForSub, receivedForReturn, yearsCarried, amountsCarried, fieldsCarried}
+use Rattle.statement_carried.specs.{stockForSub, receivedForReturn, yearsCarried, amountsCarried, amountsWithin, fieldsCarried, fieldsWithin}
 use Rattle.theorem_keeping.proofs.Tests.{if-read, if-so, just-when-read, just-when}
 
 -- an area's years, from its opening to the open year, and how many returns were filed
@@ -49,7 +49,7 @@ module _ (area : Area) where
       (k .opens, (k .changed, (le-leb _ _ (k .ends), (le-leb _ _ (k .starts), (unfiled, (le-leb _ _ (k .yearly), tt))))))
 
   amounts-read : amountsCarried area ≡ true → AmountsKept (area .count) (area .returns) (area .stock .0) (area .received) (area .surrendered) (area .withdrawn)
-  unfolding amountsCarried AllTrue
+  unfolding amountsWithin AllTrue
   amounts-read e =
       let t = all-true _ e in
       record {
@@ -61,17 +61,17 @@ module _ (area : Area) where
 
   amounts-carried : AmountsKept (area .count) (area .returns) (area .stock .0) (area .received) (area .surrendered) (area .withdrawn)
       → amountsCarried area ≡ true
-  unfolding amountsCarried AllTrue
+  unfolding amountsWithin AllTrue
   amounts-carried k =
       true-all _
       (le-leb _ _ (k .bounded), (le-leb _ _ (k .earned), (le-leb _ _ (k .owned), (if-so _ _ _ (k .settled), tt))))
 
   pub fields-read : fieldsCarried area ≡ true → (area .count ≤ mostSubs) × FieldsKept area
-  unfolding fieldsCarried AllTrue
+  unfolding fieldsWithin AllTrue
   fields-read e =
       let t = all-true _ e in
       (leb-true _ _ (t .0), record { number = t .1 .0; years = years-read (t .1 .1 .0); amounts = amounts-read (t .1 .1 .1 .0) })
 
   pub fields-carried : area .count ≤ mostSubs → FieldsKept area → fieldsCarried area ≡ true
-  unfolding fieldsCarried AllTrue
+  unfolding fieldsWithin AllTrue
   fields-carried room k = true-all _ (le-leb _ _ room, (k .number, (years-carried (k .years), (amounts-carried (k .amounts), tt))))

@@ -1,6 +1,7 @@
--- A return opens the year after its last one. The stock is the sub-areas' own; what is received is at most 10^9 tonnes more, and no more is due than
+-- A return opens the year after its last one. The stock is the sub-areas' own; what is received is at most one return's limit more, and no more is due than
 -- the balance.
 use Rattle.laws.proofs.{ℕ, _+_, _*_, _≤_, true, false, _≡_, refl, sym, _∙_, List, arith, not-false}
+use Rattle.laws.proofs.Elements.{clash}
 use Rattle.refusals.specs.{smallest, Verdict}
 use Rattle.units.specs.{Change}
 use Rattle.ranges.specs.{isYear}
@@ -11,7 +12,6 @@ use Rattle.holding_look.specs.{known, balanceOf, lookedUp}
 use Rattle.statement_carried.specs.{receivedForReturn}
 use Rattle.step_outcome.specs.{areaCases, placed}
 use Rattle.step_file.specs.{fileCases, receivedOf, dueOf, changeOf, filedArea, filed}
-use Rattle.theorem_keeping.proofs.Tests.{clash}
 use Rattle.theorem_keeping.proofs.Within.{year-within, not-before}
 use Rattle.theorem_keeping.proofs.Stocks.{sizeOf, stock-at-most, return-at-most}
 use Rattle.theorem_keeping.proofs.Areas.{AreaKept, AreasKept}

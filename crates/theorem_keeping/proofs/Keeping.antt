@@ -7,7 +7,7 @@ use Rattle.table.specs.{isTable}
 use Rattle.line_entry.specs.{Act, AreaAct}
 use Rattle.holding.specs.{Holding, emptyHolding}
 use Rattle.holding_look.specs.{lookedUp}
-use Rattle.statement_carried.specs.{carried}
+use Rattle.statement_carried.specs.{carriedWithin}
 use Rattle.step_outcome.specs.{Outcome, placed}
 use Rattle.step.specs.{acted, applied, stepped, holdingFrom}
 use Rattle.step.proofs.Entered.{step-is, step-turned}
@@ -48,7 +48,7 @@ list-keeps own holding [] kept = kept
 list-keeps own holding (e ∷ es) kept = list-keeps own (placed holding (stepped own holding e)) es (step-keeps own holding e kept)
 
 pub empty-kept : Kept emptyHolding
-unfolding carried allOf every distinct Each
+unfolding carriedWithin allOf every distinct Each
 empty-kept = record { carries = refl; tidy = record { areas = record { long = refl; unused = refl }; subs = tt } }
 
 -- "Each step gets the holding that the last one left": what any list of entries reaches, a statement carries

@@ -1,8 +1,9 @@
 -- A property of each element, read at a place and kept by a store or by one element more; the test `every` is such a property, and a bound of each
 -- bounds the sum; and `distinct`, which looks at numbers alone, is kept where they stay.
-use Rattle.laws.proofs.{ℕ, zero, suc, _*_, _≤_, _<_, Bool, true, _||_, _≡_, refl, sym, ap, _∙_, List, [], _∷_, _++_, map, arith, eqb, length, getD, set}
+use Rattle.laws.proofs.{ℕ, zero, suc, _*_, _≤_, _<_, Bool, true, _≡_, refl, sym, ap, _∙_, List, [], _∷_, _++_, map, arith, length, getD, set}
 use native.Mathlib.Nat.{mul-suc}
-use Rattle.laws.specs.{some, every, distinct, sumBy}
+use Rattle.laws.specs.{every, distinct, sumBy}
+use Rattle.laws.proofs.Distinct.{distinct-borne}
 use Rattle.laws.proofs.Lists.{and-left, and-right, both}
 use Rattle.theorem_keeping.specs.{Each}
 
@@ -23,6 +24,11 @@ module _ {A : Type 0} (P : A → Type 0) where
   unfolding Each
   each-more [] a q p = (q, tt)
   each-more (x ∷ l) a q p = (p .0, each-more l a q (p .1))
+
+pub each-map : {A : Type 0} (P : A → Type 0) (f : A → A) (l : List A) → Each (λ a. P (f a)) l → Each P (map f l)
+unfolding Each
+each-map P f [] p = tt
+each-map P f (a ∷ l) p = (p .0, each-map P f l (p .1))
 
 pub sum-at-most : {A : Type 0} (f : A → ℕ) (m : ℕ) (l : List A) → Each (λ a. f a ≤ m) l → sumBy f l ≤ m * length l
 unfolding sumBy Each
@@ -49,15 +55,5 @@ module _ {A : Type 0} (test : A → Bool) where
   each-every (a ∷ l) p = both _ _ (p .0) (each-every l (p .1))
 
 module _ {A : Type 0} (numberOf : A → ℕ) where
-  some-of-numbers : (n : ℕ) (l : List A) → some (λ a. eqb (numberOf a) n) l ≡ some (λ k. eqb k n) (map numberOf l)
-  unfolding some
-  some-of-numbers n [] = refl
-  some-of-numbers n (a ∷ l) = ap (_||_ (eqb (numberOf a) n)) (some-of-numbers n l)
-
-  distinct-of-numbers : (l : List A) → distinct numberOf l ≡ distinct (λ k. k) (map numberOf l)
-  unfolding distinct
-  distinct-of-numbers [] = refl
-  distinct-of-numbers (a ∷ l) = rw (some-of-numbers (numberOf a) l, distinct-of-numbers l)
-
   pub distinct-same : (l m : List A) → map numberOf m ≡ map numberOf l → distinct numberOf l ≡ true → distinct numberOf m ≡ true
-  distinct-same l m e h = distinct-of-numbers m ∙ ap (distinct (λ k. k)) e ∙ sym (distinct-of-numbers l) ∙ h
+  distinct-same l m e h = sym (distinct-borne numberOf m) ∙ ap (distinct (λ k. k)) e ∙ distinct-borne numberOf l ∙ h

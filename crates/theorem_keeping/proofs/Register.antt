@@ -4,11 +4,11 @@ use Rattle.laws.proofs.{ℕ, zero, suc, _+_, _-_, _≤_, _<_, true, false, _≡
 use lib.Seq.{drop-set-lt, take-set-lt, take-suc-set, map-set-same}
 use Rattle.laws.proofs.Distinct.{distinct-more}
 use Rattle.laws.specs.{distinct}
+use Rattle.laws.proofs.Elements.{clash}
 use Rattle.holding.specs.{Found, placeFrom}
 use Rattle.holding.proofs.Stands.{stands, stands-nowhere}
 use Rattle.holding_look.specs.{known}
 use Rattle.theorem_keeping.specs.{Tidy, Each}
-use Rattle.theorem_keeping.proofs.Tests.{clash}
 use Rattle.theorem_keeping.proofs.Lists.{each-at, each-set, each-more, each-so, distinct-same}
 
 -- what a search did not find stands nowhere

@@ -1,6 +1,6 @@
 -- The bounds of stocks and changes. A rate is at most 30,000 and a share at most 10, so a sub-area of at most 100,000 tenths has trees of at most
--- 3×10^10 kg and residue of at most that; sixteen have at most 96×10^10 kg, and between two such stocks lie at most 960,000,000 tonnes.
-use Rattle.laws.proofs.{ℕ, _+_, _-_, _*_, _≤_, Bool, true, false, cond, _≡_, refl, List, arith, leb, ltb, length, length-take}
+-- 3×10^10 kg and residue of at most that; between two stocks of an area lie at most those of all its sub-areas, in tonnes.
+use Rattle.laws.proofs.{ℕ, _+_, _-_, _*_, _/_, _≤_, Bool, true, false, cond, _≡_, refl, List, arith, leb, ltb, length, length-take}
 use native.Mathlib.Nat.{mul-le-mul}
 use Rattle.laws.specs.{eachAtMost}
 use Rattle.laws.proofs.Lists.{ceiling-at}
@@ -64,12 +64,16 @@ abbrev pub sizeOf : Change → ℕ
 sizeOf (Change.Gain tonnes) = tonnes
 sizeOf (Change.Loss tonnes) = tonnes
 
+-- what the stock of an area that is full comes to, in tonnes: less than a return may receive
+abbrev pub mostChange : ℕ
+mostChange = stockForSub * mostSubs / 1000
+
 pub change-at-most : (opening closing : Kilograms) → opening .0 ≤ stockForSub * mostSubs → closing .0 ≤ stockForSub * mostSubs
-    → sizeOf (changeBetween opening closing) ≤ 960000000
+    → sizeOf (changeBetween opening closing) ≤ mostChange
 unfolding changeBetween tonnes
 change-at-most opening closing p q = go (leb (opening .0) (closing .0))
   where
-    go : (t : Bool) → sizeOf (cond t (Change.Gain (tonnes (closing .0 - opening .0))) (Change.Loss (tonnes (opening .0 - closing .0)))) ≤ 960000000
+    go : (t : Bool) → sizeOf (cond t (Change.Gain (tonnes (closing .0 - opening .0))) (Change.Loss (tonnes (opening .0 - closing .0)))) ≤ mostChange
     go true = omega arith
     go false = omega arith
 
@@ -80,7 +84,7 @@ module _ (own : List ℕ) (table : isTable own ≡ true) (area : Area) (k : Area
       let lands = each-so _ _ (λ sub s. land-within (sub .tenths) (s .land) .1) (subsOf area) (k .subs .each) in
       omega (arith, area-at-most own table area y lands, length-take (area .count) (area .subs))
 
-  pub return-at-most : (last : ℕ) → sizeOf (changeOf own schedule6 area last) ≤ 960000000
+  pub return-at-most : (last : ℕ) → sizeOf (changeOf own schedule6 area last) ≤ mostChange
   unfolding changeOf
   return-at-most last =
       let room : area .count ≤ mostSubs = k .subs .room in

@@ -1,9 +1,9 @@
 -- A clearing or a planting changes the one sub-area that it looked up. The latest year grows, which every other sub-area bears.
 use Rattle.laws.proofs.{ℕ, _≤_, max, Bool, true, false, _||_, _≡_, refl, sym, arith, eqb}
+use Rattle.laws.proofs.Elements.{clash}
 use Rattle.ranges.specs.{isYear}
 use Rattle.holding.specs.{Sub, Area, Found, emptySub, findSub}
 use Rattle.holding_look.specs.{known, subAt, withSub, subsWith}
-use Rattle.theorem_keeping.proofs.Tests.{clash}
 use Rattle.theorem_keeping.proofs.Register.{register-at, register-put, register-so}
 use Rattle.theorem_keeping.proofs.Subs.{SubKept, sub-later}
 use Rattle.theorem_keeping.proofs.Areas.{SubsKept, AreaKept}

@@ -3,11 +3,11 @@
 use Rattle.laws.proofs.{ℕ, _≤_, max, Bool, true, false, cond, _≡_, refl, sym, _∙_, arith, leb-true, le-leb, eqb-true, eq-eqb}
 use Rattle.laws.specs.{every}
 use Rattle.laws.proofs.Tests.{AllTrue, all-true, true-all}
+use Rattle.laws.proofs.Elements.{clash}
 use Rattle.ranges.specs.{isBare, isSub, isLand, isPlanted}
 use Rattle.holding.specs.{Residue, Sub, Area, residuesIn}
 use Rattle.statement_carried.specs.{residueCarried, subCarried}
 use Rattle.statement_carried.proofs.Residues.{nought, ranged, residues-carried}
-use Rattle.theorem_keeping.proofs.Tests.{clash}
 
 pub record ResidueKept (opening latest : ℕ) (residue : Residue) : Type 0 where
   pub none : isBare (residue .forest) ≡ true → (residue .age ≡ 0) × (residue .year ≡ 0)

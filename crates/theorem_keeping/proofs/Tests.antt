@@ -1,8 +1,6 @@
 -- Tests joined: one holds where another does, or just when it does.
-use Rattle.laws.proofs.{ℕ, Bool, true, false, not, _||_, Bool·beq, _≡_, refl, sym, arith, eqb, eqb-true, eqb-false, eq-eqb, ne-eqb}
-
-pub clash : {P : Type 0} → _≡_ {A = Bool} true false → P
-clash e = absurd (let z : _≡_ {A = ℕ} 0 1 = cc in omega arith)
+use Rattle.laws.proofs.{ℕ, Bool, true, false, not, _||_, Bool·beq, _≡_, refl, sym, eqb, eqb-true, eqb-false, eq-eqb, ne-eqb}
+use Rattle.laws.proofs.Elements.{clash}
 
 -- "equal if withdrawn": a number equals another where a test holds
 module _ (t : Bool) (a b : ℕ) where

@@ -1,11 +1,10 @@
 -- The ranges of fields, read as bounds.
 use Rattle.laws.proofs.{ℕ, _≤_, Bool, true, false, not, _&&_, _||_, _≡_, eqb, leb, ltb, leb-true, le-leb, ltb-false}
-use Rattle.laws.proofs.Elements.{or-false-left, or-false-right}
+use Rattle.laws.proofs.Elements.{or-false-left, or-false-right, clash}
 use Rattle.forest.specs.{Forest}
 use Rattle.units.specs.{Tenths}
 use Rattle.ranges.specs.{firstYear, lastYear, firstPlanted, leastLand, mostLand, isBare, isYear, isLand, isPlanted}
 use Rattle.laws.proofs.Lists.{and-left, and-right, both}
-use Rattle.theorem_keeping.proofs.Tests.{clash}
 
 -- both bounds of a number that a test keeps within them
 pub within : (low n high : ℕ) → leb low n && leb n high ≡ true → (low ≤ n) × (n ≤ high)

@@ -7,11 +7,12 @@ use Rattle.line_entry.specs.{AreaAct}
 use Rattle.holding.specs.{Holding, emptyHolding}
 use Rattle.step_outcome.specs.{placed}
 use Rattle.step.specs.{stepped, holdingFrom}
-use Rattle.theorem_keeping.specs.{Kept}
+use Rattle.statement_carried.specs.{Limits, limits}
+use Rattle.theorem_keeping.specs.{KeptWithin, Kept}
 use Rattle.theorem_keeping.proofs.Keeping.{step-keeps, list-keeps, reached-kept}
 use Rattle.statement_format.specs.{startText, joined, statementOf}
-use Rattle.statement_parse.specs.{holdingAt}
-use Rattle.statement.specs.{Read, readOf}
+use Rattle.statement_parse.specs.{holdingWithin}
+use Rattle.statement.specs.{Read, readWithin, readOf}
 use Rattle.statement_places.proofs.Places.{Stands, stands-whole, whole-stands}
 use Rattle.theorem_round_trips.proofs.WrittenReads.{holding-here}
 use Rattle.theorem_round_trips.proofs.ReadWrites.{holding-there, holding-tidy}
@@ -25,23 +26,24 @@ statement-some holding = omega arith
 pub written-reads : (holding : Holding) → Kept holding → readOf (statementOf holding) ≡ record { verdict = Verdict.Accepted; holding = holding }
 written-reads holding kept =
     let s = statementOf holding in
-    accepted-read s holding (holding-here s (length s) holding kept (stands-whole s)) (statement-some holding) (kept .carries)
+    accepted-read limits s holding (holding-here s (length s) holding kept (stands-whole s)) (statement-some holding) (kept .carries)
 
-module _ (s : List ℕ) (clear : readOf s .verdict ≡ Verdict.Accepted) where
-  same-holding : readOf s .holding ≡ holdingAt s .holding
-  same-holding = ap (λ (r : Read). r .holding) (read-holding s clear)
+-- whatever the limits are
+module _ (most : Limits) (s : List ℕ) (clear : readWithin most s .verdict ≡ Verdict.Accepted) where
+  same-holding : readWithin most s .holding ≡ holdingWithin (most .subs) s .holding
+  same-holding = ap (λ (r : Read). r .holding) (read-holding most s clear)
 
   -- a statement that is read writes back to the same bytes
-  pub read-writes : statementOf (readOf s .holding) ≡ s
+  pub read-writes : statementOf (readWithin most s .holding) ≡ s
   read-writes =
-      let accepted = read-accepted s clear in
-      let there = holding-there s (accepted .started) in
+      let accepted = read-accepted most s clear in
+      let there = holding-there (most .subs) s (accepted .started) in
       ap statementOf same-holding
-      ∙ sym (whole-stands (subst (λ (p : ℕ). Stands s 0 (statementOf (holdingAt s .holding)) p) (accepted .ended) there))
+      ∙ sym (whole-stands (subst (λ (p : ℕ). Stands s 0 (statementOf (holdingWithin (most .subs) s .holding)) p) (accepted .ended) there))
 
   -- and what is read of it, a statement carries
-  pub read-kept : Kept (readOf s .holding)
-  read-kept = subst Kept (sym same-holding) (record { carries = read-accepted s clear .carries; tidy = holding-tidy s })
+  pub read-kept : KeptWithin most (readWithin most s .holding)
+  read-kept = subst (KeptWithin most) (sym same-holding) (record { carries = read-accepted most s clear .carries; tidy = holding-tidy (most .subs) s })
 
 -- a holding that a statement carries is the only one that its statement is read as
 pub accepts-that : (s : List ℕ) (holding : Holding) → Kept holding → statementOf holding ≡ s → readOf s ≡ record { verdict = Verdict.Accepted; holding = holding }
@@ -50,7 +52,7 @@ accepts-that s holding kept e = sym (ap readOf e) ∙ written-reads holding kept
 -- "A reader accepts it exactly when .. the bytes are the writer's": they are the statement of a holding that a statement carries
 pub accepts-just-when : (s : List ℕ) → (readOf s .verdict ≡ Verdict.Accepted) ↔ ((holding : Holding) × Kept holding × (statementOf holding ≡ s))
 accepts-just-when s = (
-  (λ clear. (readOf s .holding, read-kept s clear, read-writes s clear)),
+  (λ clear. (readOf s .holding, read-kept limits s clear, read-writes limits s clear)),
   (λ written. ap (λ (r : Read). r .verdict) (accepts-that s (written .0) (written .1) (written .2))),
 )
 
@@ -63,8 +65,8 @@ reached-reads-back own es = written-reads (holdingFrom own emptyHolding es) (rea
 pub carried-on : (own s : List ℕ) (entry : AreaAct) → readOf s .verdict ≡ Verdict.Accepted
     → (let after = placed (readOf s .holding) (stepped own (readOf s .holding) entry) in
     readOf (statementOf after) ≡ record { verdict = Verdict.Accepted; holding = after })
-carried-on own s entry clear = written-reads _ (step-keeps own (readOf s .holding) entry (read-kept s clear))
+carried-on own s entry clear = written-reads _ (step-keeps own (readOf s .holding) entry (read-kept limits s clear))
 
 pub carried-through : (own s : List ℕ) (es : List AreaAct) → readOf s .verdict ≡ Verdict.Accepted
     → (let after = holdingFrom own (readOf s .holding) es in readOf (statementOf after) ≡ record { verdict = Verdict.Accepted; holding = after })
-carried-through own s es clear = written-reads _ (list-keeps own (readOf s .holding) es (read-kept s clear))
+carried-through own s es clear = written-reads _ (list-keeps own (readOf s .holding) es (read-kept limits s clear))

@@ -3,7 +3,7 @@ use Rattle.laws.proofs.{ℕ, _+_, _≤_, _<_, _≡_, refl, ap, Bool, true, fals
 use Rattle.holding.specs.{Residue, Sub, Area, Holding, mostAreas, mostSubs, areasOf, subsOf, emptySub, emptyArea}
 use Rattle.statement_format.specs.{startText, numberText, typeText, texts, flag, residueText, subText, yearsText, amountsText, areaText, statementOf}
 use Rattle.statement_format.proofs.Residues.{subPieces, sub-text}
-use Rattle.statement_parse.specs.{SubRead, AmountsRead, AreaRead, most8, most16, most32, mostRead, residueAt, subLineAt, subsFrom, subsAt, yearsAt, amountsAt, areaLineAt, areasFrom, areasAt, holdingAt}
+use Rattle.statement_parse.specs.{SubRead, AmountsRead, AreaRead, most8, most16, most32, mostRead, residueAt, subLineAt, subsFrom, subsAt, subsWithin, yearsAt, amountsAt, areaLineAt, areaLineWithin, areasFromWithin, areasAt, areasWithin, holdingAt, holdingWithin}
 use Rattle.theorem_keeping.specs.{Kept}
 use Rattle.theorem_keeping.proofs.Register.{Register}
 use Rattle.theorem_keeping.proofs.Areas.{areaNumber, subNumber}
@@ -46,7 +46,7 @@ module _ (s : List ℕ) (at last : ℕ) where
 
 subs-here : (s : List ℕ) (at last count : ℕ) (subs : List Sub) → Register subNumber emptySub SubFits mostSubs count subs → 0 < at
     → Stands s at (texts subText (take count subs)) last → subsAt s at count ≡ record { subs = subs; next = last }
-unfolding subsAt subsFrom
+unfolding subsWithin subsFrom
 subs-here s at last count subs register started stands =
     ap (λ (read : List Sub × ℕ). record { subs = read .0; next = read .1 })
     (register-here (λ p. subLineAt s p .sub) (λ p. subLineAt s p .next) s subText SubFits
@@ -110,7 +110,7 @@ module _ (s : List ℕ) (at last : ℕ) (area : Area) (fits : AreaFits area) (st
 
 module _ (s : List ℕ) (at last : ℕ) where
   area-here : (area : Area) → AreaFits area → 0 < at → Stands s at (areaText area) last → areaLineAt s at ≡ record { area = area; next = last }
-  unfolding areaLineAt areaText
+  unfolding areaLineWithin areaText
   area-here area fits started stands =
       let p0 : Pieces s at (startText 65 ∷ yearsText area ∷ amountsText area ∷ numberText (area .count) 10 ∷ texts subText (subsOf area) ∷ []) last =
       record { all = stands } in
@@ -127,7 +127,7 @@ module _ (s : List ℕ) (at last : ℕ) where
 
 areas-here : (s : List ℕ) (at last count : ℕ) (areas : List Area) → Register areaNumber emptyArea AreaFits mostAreas count areas → 0 < at
     → Stands s at (texts areaText (take count areas)) last → areasAt s at count ≡ record { areas = areas; next = last }
-unfolding areasAt areasFrom
+unfolding areasWithin areasFromWithin
 areas-here s at last count areas register started stands =
     ap (λ (read : List Area × ℕ). record { areas = read .0; next = read .1 })
     (register-here (λ p. areaLineAt s p .area) (λ p. areaLineAt s p .next) s areaText AreaFits
@@ -140,7 +140,7 @@ start-some at letter = omega arith
 
 pub holding-here : (s : List ℕ) (last : ℕ) (holding : Holding) → Kept holding → Stands s 0 (statementOf holding) last
     → holdingAt s ≡ record { holding = holding; next = last }
-unfolding holdingAt statementOf
+unfolding holdingWithin statementOf
 holding-here s last holding kept stands =
     let register = holding-fits holding kept in
     let p0 : Pieces s 0 (startText 72 ∷ numberText (holding .count) 10 ∷ texts areaText (areasOf holding) ∷ []) last = record { all = stands } in

@@ -13,7 +13,7 @@ use Rattle.table_bytes.specs.{numbersOf, decodable}
 use Rattle.holding.specs.{placeFrom, findArea}
 use Rattle.holding_look.specs.{areaAt}
 use Rattle.stocks.specs.{areaStock}
-use Rattle.statement_carried.specs.{yearsCarried, amountsCarried, fieldsCarried, areaCarried, carried}
+use Rattle.statement_carried.specs.{yearsCarried, amountsWithin, fieldsWithin, areaWithin, carriedWithin}
 use Rattle.step_outcome.specs.{answered, placed, areaCases}
 use Rattle.step_open.specs.{openCases, opened}
 use Rattle.step_file.specs.{fileCases, changeOf, filedArea, returnOf, filed}
@@ -21,8 +21,8 @@ use Rattle.step_withdraw.specs.{withdrawCases, withdrawn}
 use Rattle.step.specs.{applied}
 use Rattle.statement_format.specs.{startText, numberText, joined, texts, yearsText, amountsText, areaText, statementOf}
 use Rattle.statement_cursor.specs.{fieldOf, fieldBy, numberBefore, numberAt, startAt, lineAt}
-use Rattle.statement_parse.specs.{itemsFrom, subsFrom, subsAt, yearsAt, amountsAt, areaLineAt, areasFrom, areasAt, holdingAt}
-use Rattle.statement.specs.{acceptable, readOf}
+use Rattle.statement_parse.specs.{itemsFrom, subsFrom, subsWithin, yearsAt, amountsAt, areaLineWithin, areasFromWithin, areasWithin, holdingWithin}
+use Rattle.statement.specs.{acceptableWithin, readWithin}
 use Rattle.book_print.specs.{changeText, reportText, pairText, refusalText, footText, endText}
 use Rattle.book_foot.specs.{allCarried, summable, footOf}
 use Rattle.book_listing.specs.{linesOf, entryTaken, parsedTaken, lineTaken, tableAfter, start, next, printedFor, printed, runFrom, printedFrom, listFrom, linesRun, listingOf}
@@ -79,6 +79,6 @@ pub record Examples : Type 0 where
   pub short-output : sentFrom (begin [] (room 30)) lines ≡ []
 
 pub examples-hold : Examples
-unfolding some every distinct keep sumBy allOf bufferAfter weighed weighAll smallest tonnes changeBetween digitsIn digits widthTo holds extend split append more headed numberIn letterIn parsed areaAndYear openRule fileRule withdrawRule bodyOf letterOf noRule ruleOf lineRule conditions entryOf isTable numbersOf decodable placeFrom findArea areaAt areaStock yearsCarried amountsCarried fieldsCarried areaCarried carried answered placed areaCases openCases opened fileCases changeOf filedArea returnOf filed withdrawCases withdrawn applied startText numberText joined texts yearsText amountsText areaText statementOf fieldOf fieldBy numberBefore numberAt startAt lineAt itemsFrom subsFrom subsAt yearsAt amountsAt areaLineAt areasFrom areasAt holdingAt acceptable readOf changeText reportText pairText refusalText footText endText allCarried summable footOf linesOf entryTaken parsedTaken lineTaken tableAfter start next printedFor printed runFrom printedFrom listFrom listingOf tableVerdict callVerdict entryBytes callBytes withRoom callWeighed callAnswer callOutput begin isColumnLine beforeReport afterCall shownAfter sentFrom reportsFrom linesRun actsFrom reportsIn
+unfolding some every distinct keep sumBy allOf bufferAfter weighed weighAll smallest tonnes changeBetween digitsIn digits widthTo holds extend split append more headed numberIn letterIn parsed areaAndYear openRule fileRule withdrawRule bodyOf letterOf noRule ruleOf lineRule conditions entryOf isTable numbersOf decodable placeFrom findArea areaAt areaStock yearsCarried amountsWithin fieldsWithin areaWithin carriedWithin answered placed areaCases openCases opened fileCases changeOf filedArea returnOf filed withdrawCases withdrawn applied startText numberText joined texts yearsText amountsText areaText statementOf fieldOf fieldBy numberBefore numberAt startAt lineAt itemsFrom subsFrom subsWithin yearsAt amountsAt areaLineWithin areasFromWithin areasWithin holdingWithin acceptableWithin readWithin changeText reportText pairText refusalText footText endText allCarried summable footOf linesOf entryTaken parsedTaken lineTaken tableAfter start next printedFor printed runFrom printedFrom listFrom listingOf tableVerdict callVerdict entryBytes callBytes withRoom callWeighed callAnswer callOutput begin isColumnLine beforeReport afterCall shownAfter sentFrom reportsFrom linesRun actsFrom reportsIn
 examples-hold =
     record { listing-reports = refl; book-acts = refl; book-reports = refl; calls-sent = refl; calls-reports = refl; short-output = refl }

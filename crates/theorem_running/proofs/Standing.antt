@@ -1,5 +1,6 @@
 -- A T line is accepted only while no area stands, and after an accepted act one stands: an opening adds one, and any other act found its own.
 use Rattle.laws.proofs.{ℕ, _+_, _≤_, true, _≡_, refl, sym, List, arith, not-false, leb, leb-false}
+use Rattle.laws.proofs.Elements.{clash}
 use Rattle.refusals.specs.{Refusal, Verdict}
 use Rattle.refusals.proofs.Laws.{clear-last, ruled-out}
 use Rattle.schedules.specs.{schedule6}
@@ -17,7 +18,6 @@ use Rattle.step_withdraw.specs.{withdrawCases, withdrawn}
 use Rattle.step.specs.{acted, applied}
 use Rattle.table_grow.specs.{growable}
 use Rattle.book_listing.specs.{entryTaken}
-use Rattle.theorem_keeping.proofs.Tests.{clash}
 use Rattle.theorem_keeping.proofs.Areas.{areaNumber}
 use Rattle.theorem_keeping.proofs.Register.{found-inside}
 

@@ -5,7 +5,8 @@ use Rattle.laws.proofs.{ℕ, _+_, _<_, true, false, _≡_, refl, sym, ap, subst
 use Rattle.laws.specs.{keep}
 use mathlib.Core.List.{map-append}
 use lib.Seq.{take-set-lt}
-use Rattle.laws.proofs.Standing.{map-set}
+use Rattle.laws.proofs.Standing.{map-set, stood-more, stood-same}
+use Rattle.laws.proofs.Elements.{clash}
 use Rattle.refusals.specs.{Verdict}
 use Rattle.refusals.proofs.Laws.{ruled-out}
 use Rattle.units.specs.{Tenths}
@@ -27,12 +28,10 @@ use Rattle.step.proofs.Entered.{step-is}
 use Rattle.book_export.specs.{adds}
 use Rattle.theorem_keeping.specs.{Kept}
 use Rattle.theorem_keeping.proofs.Areas.{areaNumber, subNumber, AreasKept, kept-areas}
-use Rattle.theorem_keeping.proofs.Tests.{clash}
 use Rattle.theorem_keeping.proofs.Answers.{answer-has}
 use Rattle.theorem_keeping.proofs.Keeping.{step-keeps}
 use Rattle.theorem_keeping.proofs.Register.{found-inside, register-at}
 use Rattle.theorem_sheets.specs.{opens, opensOrAdds}
-use Rattle.theorem_sheets.proofs.Lists.{stood-more, stood-same}
 use Rattle.theorem_sheets.proofs.Taken.{Accepts, afterAct, Taken}
 use Rattle.theorem_sheets.proofs.Changes.{opens-like, opening-read, opening-made, adding-read, adding-made}
 use Rattle.theorem_sheets.proofs.Views.{View, viewOf, unfiled, Alike, find-alike, many-alike, view-alike, added-clear, added-view}
@@ -129,7 +128,7 @@ module _ (own : List ℕ) (table : isTable own ≡ true) where
 
     -- an act that is neither, whatever its verdict
     neither-alike : (n : ℕ) (act : Act) → opens act ≡ false → adds act ≡ false → Alike alone (placed whole (acted own schedule6 (lookedUp whole n) act))
-    unfolding opens adds cleared clearedSub clearedArea planted plantedSub plantedArea filed filedArea withdrawn withdrawnArea subAt
+    unfolding cleared clearedSub clearedArea planted plantedSub plantedArea filed filedArea withdrawn withdrawnArea subAt
     neither-alike n (Act.Open opening) o a = clash o
     neither-alike n (Act.Add sub land forest year) o a = clash a
     neither-alike n (Act.Clear sub year) o a = changed-alike n _ _ _ (put-back n sub _ year refl)
@@ -155,7 +154,7 @@ module _ (own : List ℕ) (table : isTable own ≡ true) where
     whole-on o a = rest _ _ k (step-keeps own whole (on n act) l) (stepped-alike alone whole alike (on n act) (neither-alike alone whole alike n act o a)) t
 
   act-alone : (acts : List AreaAct) → Alone acts → (n : ℕ) (act : Act) → Alone (on n act ∷ acts)
-  unfolding Taken keep opens adds
+  unfolding Taken keep
   act-alone acts rest n (Act.Open opening) alone whole k l alike t =
       both-on acts rest alone whole k l alike n _ (t .1) (opened-alike alone whole alike (kept-areas alone k) (kept-areas whole l) n opening (t .0))
   act-alone acts rest n (Act.Add number land forest year) alone whole k l alike t =

@@ -1,6 +1,7 @@
 -- What an accepted A entry says of a holding, and an accepted S entry; and the other way, that it is accepted where that holds, and what it leaves. An A entry
 -- wants its number unknown and the count alone; an S entry looks at the one area that it finds.
 use Rattle.laws.proofs.{ℕ, _+_, true, _≡_, refl, sym, ap, subst, _∙_, List, getD, set}
+use Rattle.laws.proofs.Elements.{clash}
 use Rattle.refusals.specs.{smallest, Verdict}
 use Rattle.refusals.proofs.Laws.{ruled-out}
 use Rattle.units.specs.{Tenths}
@@ -16,7 +17,6 @@ use Rattle.step_open.specs.{openCases, opened}
 use Rattle.step_add.specs.{newSub, addCases, addedArea, added}
 use Rattle.step.specs.{applied, stepped}
 use Rattle.step.proofs.Entered.{step-is}
-use Rattle.theorem_keeping.proofs.Tests.{clash}
 use Rattle.theorem_keeping.proofs.Register.{unknown}
 use Rattle.theorem_sheets.proofs.Taken.{Accepts, afterAct}
 

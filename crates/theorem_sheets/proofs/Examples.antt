@@ -17,7 +17,7 @@ use Rattle.holding.specs.{placeFrom, findArea, findSub, residuesIn}
 use Rattle.holding_look.specs.{areaAt}
 use Rattle.rates.specs.{consulted, cellAt, rateSix}
 use Rattle.stocks.specs.{treesOn, residueOn, subStock}
-use Rattle.statement_carried.specs.{yearsCarried, amountsCarried, fieldsCarried}
+use Rattle.statement_carried.specs.{yearsCarried, amountsWithin, fieldsWithin}
 use Rattle.statement_format.specs.{texts}
 use Rattle.step_outcome.specs.{answered, placed, areaCases}
 use Rattle.step_open.specs.{openCases, opened}
@@ -25,13 +25,13 @@ use Rattle.step_add.specs.{addCases, addedArea, added}
 use Rattle.step_withdraw.specs.{withdrawCases, withdrawnArea, withdrawn}
 use Rattle.step.specs.{applied, stepped, holdingFrom}
 use Rattle.book_listing.specs.{linesOf, entryTaken, parsedTaken, lineTaken, tableAfter, start, next, runFrom, linesRun}
-use Rattle.book_export.specs.{adds, exportedRow, exportedFrom, exportRows, exportOf}
+use Rattle.book_export.specs.{exportedRow, exportedFrom, exportRows, exportOf}
 use Rattle.sheet_read.specs.{Row, afterField, plainAt, beginsAt, turned, readingAfter, sound, inFront, fieldInFront, marked, rowsFrom, rowsOf}
-use Rattle.sheet_judge.specs.{sameBytes, sameRow, regular, sheetVerdict}
+use Rattle.sheet_judge.specs.{regular, sheetVerdict, sameBy}
 use Rattle.sheet_write.specs.{doubled, quoted, rowText, sheetText, rowOf}
 use Rattle.sheet_import.specs.{sheetRows, importRows, importOnto}
 use Rattle.theorem_running.specs.{ended, actsFrom}
-use Rattle.theorem_sheets.specs.{opens, imported}
+use Rattle.theorem_sheets.specs.{imported}
 
 -- A,7,2010; S,7,2,5.25,B,0; S,7,2,9,B,0, which is refused; W,7; A,3,2012; S,3,1,2,B,0
 abbrev lines : List (List ℕ)
@@ -59,5 +59,5 @@ pub record Examples : Type 0 where
   pub onto-whole : importOnto [] (runFrom start (linesRun book) .holding) (exportOf book) .verdict ≡ Verdict.Refused Refusal.AreaWithdrawn
 
 pub examples-hold : Examples
-unfolding every keep sumBy allOf weighed weighAll smallest tenthsOf treesOf placeSix lengthOf consulted cellAt rateSix widthTo holds extend split joinAfter join append more headed numberIn withDecimals decimalIn hectaresIn beside letterNames named letterIn parsed areaAndYear openRule addRule withdrawRule bodyOf letterOf ruleOf lineRule conditions entryOf isTable judged placeFrom findArea findSub residuesIn areaAt treesOn residueOn subStock yearsCarried amountsCarried fieldsCarried texts answered placed areaCases openCases opened addCases addedArea added withdrawCases withdrawnArea withdrawn applied stepped holdingFrom linesOf entryTaken parsedTaken lineTaken tableAfter start next runFrom linesRun adds exportedRow exportedFrom exportRows exportOf afterField plainAt beginsAt turned readingAfter sound inFront fieldInFront marked rowsFrom rowsOf sameBytes sameRow regular sheetVerdict doubled quoted rowText sheetText rowOf importRows importOnto actsFrom opens
+unfolding every keep sumBy allOf weighed weighAll smallest tenthsOf treesOf placeSix lengthOf consulted cellAt rateSix widthTo holds extend split joinAfter join append more headed numberIn withDecimals decimalIn hectaresIn beside letterNames named letterIn parsed areaAndYear openRule addRule withdrawRule bodyOf letterOf ruleOf lineRule conditions entryOf isTable judged placeFrom findArea findSub residuesIn areaAt treesOn residueOn subStock yearsCarried amountsWithin fieldsWithin texts answered placed areaCases openCases opened addCases addedArea added withdrawCases withdrawnArea withdrawn applied stepped holdingFrom linesOf entryTaken parsedTaken lineTaken tableAfter start next runFrom linesRun exportedRow exportedFrom exportRows exportOf afterField plainAt beginsAt turned readingAfter sound inFront fieldInFront marked rowsFrom rowsOf sameBy regular sheetVerdict doubled quoted rowText sheetText rowOf importRows importOnto actsFrom
 examples-hold = record { rows-shown = refl; onto-openings = refl; onto-whole = refl }

@@ -8,7 +8,7 @@ use Rattle.step.specs.{holdingFrom}
 use Rattle.book_listing.specs.{linesRun, start}
 use Rattle.book_export.specs.{exportedFrom, exportRows, exportOf}
 use Rattle.sheet_read.specs.{Row, rowsOf}
-use Rattle.sheet_judge.specs.{headingRow, fiveFields, sameBytes, sameRow, regular, sheetVerdict}
+use Rattle.sheet_judge.specs.{headingRow, fiveFields, regular, sheetVerdict, sameBy}
 use Rattle.sheet_import.specs.{sheetRows, Imported, importedIf, importRows, importOnto}
 use Rattle.theorem_rows.specs.{hasField}
 use Rattle.theorem_rows.proofs.Inverse.{rows-read, sheet-sound}
@@ -63,7 +63,7 @@ module _ (book : List ℕ) where
 
   -- the sheet is sound, begins with the heading, and has rows of five fields
   judged : sheetVerdict (exportOf book) ≡ Verdict.Accepted
-  unfolding exportOf exportRows sheetVerdict regular sameRow sameBytes smallest weighAll weighed
+  unfolding exportOf exportRows sheetVerdict regular sameBy smallest weighAll weighed
   judged = rw (sheet-sound (headingRow ∷ rows) fields, read, five)
 
   rows-are : sheetRows (exportOf book) ≡ rows

@@ -13,10 +13,9 @@ use Rattle.step_outcome.specs.{Outcome, placed}
 use Rattle.step.specs.{stepped, holdingFrom}
 use Rattle.step.proofs.Entered.{step-is}
 use Rattle.book_listing.specs.{entryTaken, parsedTaken, lineTaken}
-use Rattle.book_export.specs.{adds}
 use Rattle.sheet_read.specs.{Row}
 use Rattle.sheet_import.specs.{rowLine, rowTaken, Imported, importedIf, importRows}
-use Rattle.sheet_import.proofs.Lines.{body-ended}
+use Rattle.line.proofs.Laws.{ended-body}
 use Rattle.theorem_running.specs.{actsIn}
 use Rattle.theorem_sheets.specs.{addsSub, entryOn, rowEntries, actsOfRows}
 use Rattle.theorem_sheets.proofs.Taken.{Accepts, afterAct, Taken}
@@ -36,7 +35,7 @@ bodyIn row = 83 ∷ comma ∷ join row
 -- S's rule judges it
 row-read : (row : Row) → entryOf (rowLine row) ≡ parsed (smallest (conditions (bodyIn row))) (addRule (split (bodyIn row)) .entry)
 unfolding entryOf lineRule letterOf ruleOf
-row-read row = ap (λ (l : List ℕ). parsed (smallest (conditions l)) (lineRule l .entry)) (body-ended (bodyIn row))
+row-read row = ap (λ (l : List ℕ). parsed (smallest (conditions l)) (lineRule l .entry)) (ended-body (bodyIn row))
 
 -- one S entry, where it is read at all
 record OneAdded (row : Row) : Type 0 where
@@ -45,7 +44,7 @@ record OneAdded (row : Row) : Type 0 where
   pub added : addsSub on ≡ true
 
 row-added : (row : Row) (entry : Entry) → entryOf (rowLine row) ≡ Parsed.Taken entry → OneAdded row
-unfolding parsed addRule adds
+unfolding parsed addRule
 row-added row entry e = go (smallest (conditions (bodyIn row))) (row-read row)
   where
     go : (v : Verdict) → entryOf (rowLine row) ≡ parsed v (addRule (split (bodyIn row)) .entry) → OneAdded row

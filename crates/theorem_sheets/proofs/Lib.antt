@@ -1,4 +1,3 @@
-pub mod Lists
 pub mod Searches
 pub mod Taken
 pub mod Changes

@@ -11,7 +11,7 @@ use Rattle.book_export.specs.{isAddition}
 use Rattle.book_export.proofs.Additions.{SixFields, addition-fields}
 use Rattle.sheet_write.specs.{rowOf}
 use Rattle.sheet_import.specs.{rowLine}
-use Rattle.sheet_import.proofs.Lines.{body-ended}
+use Rattle.line.proofs.Laws.{ended-body}
 use Rattle.theorem_keeping.specs.{Each}
 use Rattle.theorem_keeping.proofs.Lists.{each-at, each-so}
 
@@ -78,5 +78,5 @@ module _ (line : List ℕ) (whole : Whole line) (a : isAddition (entryOf line) �
   pub entry-again : entryOf (rowLine (rowOf line)) ≡ entryOf line
   unfolding entryOf
   entry-again =
-      let body : bodyOf (rowLine (rowOf line)) ≡ bodyOf line = ap bodyOf row-line ∙ body-ended line ∙ sym whole in
+      let body : bodyOf (rowLine (rowOf line)) ≡ bodyOf line = ap bodyOf row-line ∙ ended-body line ∙ sym whole in
       ap (λ (l : List ℕ). parsed (smallest (conditions l)) (lineRule l .entry)) body

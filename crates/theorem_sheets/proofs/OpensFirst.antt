@@ -2,6 +2,8 @@
 -- behind it puts its own behind all that stand: neither sees the other, so that the two may change places, and an addition moves behind all openings.
 use Rattle.laws.proofs.{ℕ, _+_, _<_, true, _≡_, refl, sym, ap, subst, _∙_, List, [], _∷_, map, arith, leb-false, length, getD, set}
 use Rattle.laws.specs.{keep}
+use Rattle.laws.proofs.Standing.{stood-more, stood-same}
+use Rattle.holding.proofs.Stands.{found-same, found-before}
 use lib.Seq.{getD-set-other, set-comm}
 use Rattle.refusals.specs.{smallest}
 use Rattle.refusals.proofs.Laws.{ruled-out}
@@ -14,14 +16,11 @@ use Rattle.holding.specs.{Sub, Area, Holding, Found, mostAreas, areasOf, emptyA
 use Rattle.step_open.specs.{openCases}
 use Rattle.step_add.specs.{newSub, addCases, addedArea}
 use Rattle.step.specs.{holdingFrom}
-use Rattle.book_export.specs.{adds}
 use Rattle.theorem_keeping.specs.{Kept}
 use Rattle.theorem_keeping.proofs.Areas.{areaNumber, AreasKept, kept-areas}
 use Rattle.theorem_keeping.proofs.Keeping.{step-keeps}
 use Rattle.theorem_keeping.proofs.Register.{found-inside}
-use Rattle.theorem_sheets.specs.{opens, opensArea, addsSub, opensOrAdds}
-use Rattle.theorem_sheets.proofs.Lists.{stood-more, stood-same}
-use Rattle.theorem_sheets.proofs.Searches.{found-same, found-before}
+use Rattle.theorem_sheets.specs.{opensArea, addsSub, opensOrAdds}
 use Rattle.theorem_sheets.proofs.Taken.{Accepts, afterAct, Taken}
 use Rattle.theorem_sheets.proofs.Changes.{OpensOn, AddsOn, withOpened, withAdded, opens-like, opening-read, opening-made, adding-read, adding-made}
 
@@ -121,7 +120,7 @@ module _ (own : List ℕ) (table : isTable own ≡ true) where
           )
 
     act-behind : (acts : List AreaAct) → GoesBehind acts → (m : ℕ) (act : Act) → GoesBehind (on m act ∷ acts)
-    unfolding Taken keep opens holdingFrom
+    unfolding Taken keep holdingFrom
     act-behind acts rest m (Act.Open opening) holding kept e t =
         let opener = on m (Act.Open opening) in
         let s = swapped holding kept e m opening (t .0) in
@@ -150,7 +149,7 @@ module _ (own : List ℕ) (table : isTable own ≡ true) where
       → OpensFirst own holding (keep opensArea acts) (keep addsSub acts) (keep opensOrAdds acts)
 
   act-sorts : (acts : List AreaAct) → Sorts acts → (n : ℕ) (act : Act) → Sorts (on n act ∷ acts)
-  unfolding Taken keep opens adds holdingFrom
+  unfolding Taken keep holdingFrom
   act-sorts acts rest n (Act.Open opening) holding kept t =
       let first = rest _ (step-keeps own holding (on n (Act.Open opening)) kept) (t .1) in
       record { opened = (t .0, first .opened); added = first .added; same = first .same }

@@ -2,6 +2,7 @@
 -- of its own entry or none.
 use Rattle.laws.proofs.{ℕ, Bool, true, false, cond, _≡_, refl, sym, ap, _∙_, List, [], _∷_, _++_, map}
 use Rattle.laws.specs.{keep, every}
+use Rattle.laws.proofs.Elements.{keep-append, every-append}
 use mathlib.Core.List.{map-append}
 use Rattle.refusals.specs.{Verdict}
 use Rattle.line_entry.specs.{Entry, Parsed}
@@ -15,7 +16,6 @@ use Rattle.sheet_import.specs.{rowLine}
 use Rattle.theorem_keeping.specs.{Each}
 use Rattle.theorem_running.specs.{actsIn, actsFrom}
 use Rattle.theorem_sheets.specs.{addsSub, entryOn, rowEntries}
-use Rattle.theorem_sheets.proofs.Lists.{keep-append, every-append}
 use Rattle.theorem_sheets.proofs.Lines.{Whole, entry-again}
 
 module _ (run : Run) (line : List ℕ) (whole : Whole line) where

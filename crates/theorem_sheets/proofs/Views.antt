@@ -1,6 +1,8 @@
 -- What an S entry looks at in an area, besides what every kept area has. Where one holding's areas look as another's would, had none of them filed or been
 -- withdrawn, both find the same areas, and an S entry that the other accepts the one accepts too.
 use Rattle.laws.proofs.{ℕ, _<_, Bool, false, _≡_, refl, sym, ap, _∙_, List, [], _∷_, _++_, map, arith, leb-false, length, getD, getD-take, eqb-true, eqb, not-false}
+use Rattle.laws.proofs.Standing.{stood-more}
+use Rattle.holding.proofs.Stands.{found-same}
 use mathlib.Core.List.{map-map, map-append}
 use lib.ListN.{List·getD-map}
 use Rattle.refusals.specs.{smallest, Verdict}
@@ -11,8 +13,7 @@ use Rattle.step_outcome.specs.{areaCases}
 use Rattle.step_add.specs.{addCases, addedArea}
 use Rattle.theorem_keeping.proofs.Areas.{areaNumber, subNumber, AreaKept, AreasKept}
 use Rattle.theorem_keeping.proofs.Fields.{fields-carried}
-use Rattle.theorem_sheets.proofs.Lists.{stood-more}
-use Rattle.theorem_sheets.proofs.Searches.{found-same, many-same}
+use Rattle.theorem_sheets.proofs.Searches.{many-same}
 
 pub record View : Type 0 where
   pub number : ℕ

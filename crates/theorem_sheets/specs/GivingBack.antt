@@ -12,7 +12,7 @@ use Rattle.sheet_import.specs.{rowLine, sheetRows, Imported, importOnto}
 use Rattle.theorem_running.specs.{allAccepted, actsFrom}
 
 -- whether an act opens an area
-unfoldable pub opens : Act → Bool
+abbrev pub opens : Act → Bool
 opens (Act.Open opening) = true
 opens (Act.Add sub land forest year) = false
 opens (Act.Clear sub year) = false

@@ -4,6 +4,7 @@
 pub mod call;
 pub mod engine;
 pub mod forest;
+pub mod header;
 pub mod holding;
 pub mod listing;
 pub mod parcels;

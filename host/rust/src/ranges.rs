@@ -1,4 +1,4 @@
-//! The limits of document 01.
+//! The limits of document 01, and of document 02, item 4.
 
 use std::ops::RangeInclusive;
 
@@ -11,11 +11,11 @@ pub const TENTHS: RangeInclusive<u64> = 10..=100_000;
 pub const TEN_THOUSANDTHS: RangeInclusive<u64> = 10_000..=100_000_000;
 
 pub const MOST_AREAS: usize = 16;
-pub const MOST_SUBS: usize = 16;
+pub const MOST_SUBS: usize = 48;
 pub const LAST_OPEN_YEAR: u64 = 2200;
 pub const OLDEST_RESIDUE: u64 = 299;
 pub const STOCK_OF_A_SUB: u64 = 60_000_000_000;
-pub const RECEIVED_BY_A_RETURN: u64 = 1_000_000_000;
+pub const RECEIVED_BY_A_RETURN: u64 = 3_000_000_000;
 
 pub const COLUMNS: usize = 10;
 pub const MOST_CELLS: usize = 101;

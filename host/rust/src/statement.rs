@@ -8,9 +8,9 @@ use crate::text::{push_line, push_numbers, split_number};
 
 /// The longest lines, and the longest report behind them: room for them is reserved at once.
 const HEAD_BYTES: usize = "H,16\n".len();
-const AREA_BYTES: usize = "A,999,2008,2200,2199,1,192,960000000000,192000000000,192000000000,16\n".len();
+const AREA_BYTES: usize = "A,999,2008,2200,2199,1,192,2880000000000,576000000000,576000000000,48\n".len();
 const SUB_BYTES: usize = "S,99,100000,P9,2199,P9,299,2199\n".len();
-const REPORT_BYTES: usize = "R,999,2008,2199,-960000000,960000000,960000000,192000000000\n".len();
+const REPORT_BYTES: usize = "R,999,2008,2199,-2880000000,2880000000,2880000000,576000000000\n".len();
 
 pub fn write(holding: &Holding) -> Vec<u8> {
     let subs: usize = holding.areas.iter().map(|area| area.subs.len()).sum();
@@ -164,7 +164,7 @@ pub fn carried(holding: &Holding) -> bool {
         && holding.areas.iter().all(carried_area)
 }
 
-/// There are at most sixteen, so that each is held against those before it.
+/// There are so few that each is held against those before it.
 fn distinct<T>(items: &[T], number: impl Fn(&T) -> u64) -> bool {
     items.iter().enumerate().all(|(place, item)| items[..place].iter().all(|earlier| number(earlier) != number(item)))
 }

@@ -5,7 +5,7 @@ use Rattle.book_listing.specs.{longestBook}
 use Rattle.book_listing.proofs.Folding.{listing-over}
 use Rattle.book_reached.specs.{Reached, nothingReached, mayRunFrom}
 use Rattle.book_reached.proofs.Bounds.{may-begin}
-use Rattle.book_run.specs.{Print, RunsIf}
+use Rattle.book_run.specs.{RunsIf}
 use Rattle.book_run.proofs.Runs.{run-of}
 use Rattle.book_parts.proofs.Parts.{listing-whole}
 use Rattle.book_parts.proofs.put_listing.Tie as tie
@@ -21,9 +21,9 @@ returns-2 c =
     let book = begun .before .before .before .before .args .book .now in
     let out = begun .before .before .before .before .args .out .now in
     let by =
-    subst (λ (r : Reached). RunsIf (mayRunFrom book 0 r) Print.Listing book 0 r longestBook out 0 (lines .put-lines .last .1 .1 .1 .1 .1 .0) (lines .put-lines .result))
+    subst (λ (r : Reached). RunsIf (mayRunFrom book 0 r) book 0 r longestBook out 0 (lines .put-lines .last .1 .1 .1 .1 .0) (lines .put-lines .result))
     (begun .nothing-reached .ensures) (lines .put-lines .ensures) in
-    let ran = run-of Print.Listing book 0 nothingReached longestBook out 0 _ _ (may-begin book (begun .before .if1 .left)) by in
+    let ran = run-of book 0 nothingReached longestBook out 0 _ _ (may-begin book (begun .before .if1 .left)) by in
     wrote-as (listing-whole book (begun .before .if1 .left) _ (ran .run)) (wrote-then (ran .wrote) (end .put-closing .ensures .wrote))
 
 pub put-listing-spec : {M : Type 1} → Rattle.book_parts.proofs.put_listing.Statement.statement M

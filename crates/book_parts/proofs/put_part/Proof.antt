@@ -9,14 +9,14 @@ returns : tie.Need-returns
 returns c =
     let lines = c .before .before in
     let may = sym (lines .before .before .before .may-run .ensures) ∙ lines .before .before .if1 .taken in
-    let ran = run-of _ _ _ _ _ _ _ _ _ may (lines .put-lines .ensures) in
+    let ran = run-of _ _ _ _ _ _ _ _ may (lines .put-lines .ensures) in
     (part-more _ _ _ may ran (omega arith) (c .if2 .taken), comes _ _ _ may ran (omega arith) _)
 
 returns-2 : tie.Need-returns-2
 returns-2 c =
     let lines = c .before .before .before .before .before in
     let may = sym (lines .before .before .before .may-run .ensures) ∙ lines .before .before .if1 .taken in
-    let ran = run-of _ _ _ _ _ _ _ _ _ may (lines .put-lines .ensures) in
+    let ran = run-of _ _ _ _ _ _ _ _ may (lines .put-lines .ensures) in
     (part-last _ _ _ may ran (omega arith) (c .before .before .before .if2 .left) (c .put-closing .ensures), comes _ _ _ may ran (omega arith) _)
 
 returns-3 : tie.Need-returns-3

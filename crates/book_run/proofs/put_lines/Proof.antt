@@ -12,14 +12,13 @@ use Rattle.step_outcome.specs.{placed}
 use Rattle.step_outcome.proofs.Laws.{placed-here, placed-out, placed-nowhere, placed-long}
 use Rattle.table.specs.{longestTable}
 use Rattle.book_print.specs.{reportWidth}
-use Rattle.book_listing.specs.{Run, runFrom, longestBook}
+use Rattle.book_listing.specs.{Run, runFrom, printedFrom, longestBook}
 use Rattle.book_listing.proofs.Folding.{lines-taken, run-line, left-line, run-none}
 use Rattle.book_reached.specs.{mayRunFrom}
 use Rattle.book_reached.proofs.Bounds.{Bounds, bounds, may}
-use Rattle.book_run.specs.{Part, Print, printedBy, linesFrom, RunOf}
-use Rattle.book_run.proofs.Following.{turn-puts, turn-runs}
-use Rattle.book_run.proofs.Printing.{from-line, from-none}
-use Rattle.book_run.proofs.Runs.{goes-on, stopped, runs, runs-not}
+use Rattle.book_run.specs.{Part, linesFrom, RunOf}
+use Rattle.book_run.proofs.Following.{turn-prints, turn-runs}
+use Rattle.book_run.proofs.Runs.{goes-on, stopped, printed-line, printed-none, runs, runs-not}
 use Rattle.book_run.proofs.put_lines.Tie as tie
 
 -- what is carried from line to line
@@ -27,30 +26,30 @@ abbrev carried : List ℕ → ℕ → Holding → ℕ → ℕ → Run
 carried table count holding accepted refused = record { own = take count table; holding = holding; accepted = accepted; refused = refused }
 
 abbrev Inv-loop : tie.InvT-loop
-Inv-loop print book next most out₀ start default holding₀ numbers₀ table₀ count₀ accepted₀ refused₀ left₀ at₀ i₀ out holding numbers table count accepted refused left at i =
+Inv-loop book next most out₀ start default none holding₀ numbers₀ table₀ count₀ accepted₀ refused₀ left₀ at₀ i₀ out holding numbers table count accepted refused left at i =
     Bounds (length book) i count accepted refused
     × (length table ≡ longestTable) × (length (holding .areas) ≡ mostAreas) × (length out ≡ length out₀)
     × ((o : List ℕ) (p : ℕ)
-    → Wrote out at (printedBy print (carried table count holding accepted refused) (take left (linesFrom book i))) o p
-    → Wrote out₀ start (printedBy print (carried table₀ count₀ holding₀ accepted₀ refused₀) (take most (linesFrom book next))) o p)
+    → Wrote out at (printedFrom (carried table count holding accepted refused) (take left (linesFrom book i))) o p
+    → Wrote out₀ start (printedFrom (carried table₀ count₀ holding₀ accepted₀ refused₀) (take most (linesFrom book next))) o p)
     × (runFrom (carried table count holding accepted refused) (take left (linesFrom book i))
     ≡ runFrom (carried table₀ count₀ holding₀ accepted₀ refused₀) (take most (linesFrom book next)))
     × (drop left (linesFrom book i) ≡ drop most (linesFrom book next))
     × (numbers ≡ numbersIn (holding .areas))
-    × (at ≤ greatest) × (print ≡ Print.Listing → at + left * reportWidth ≤ start + most * reportWidth) × (next + most ≤ i + left)
+    × (at ≤ greatest) × (at + left * reportWidth ≤ start + most * reportWidth) × (next + most ≤ i + left)
 
 abbrev μ-loop : tie.MeasureT-loop
-μ-loop print book next most out₀ start default holding₀ numbers₀ table₀ count₀ accepted₀ refused₀ left₀ at₀ i₀ out holding numbers table count accepted refused left at i = length book - i
+μ-loop book next most out₀ start default none holding₀ numbers₀ table₀ count₀ accepted₀ refused₀ left₀ at₀ i₀ out holding numbers table count accepted refused left at i = length book - i
 
 -- the start of the function, from the loop
 abbrev startOf : tie.At-loop Inv-loop μ-loop → tie.Start Inv-loop μ-loop
-startOf l = l .before .before .before .before .before .before .before .before .before
+startOf l = l .before .before .before .before .before .before .before .before .before .before
 
 abbrev bookOf : tie.At-loop Inv-loop μ-loop → List ℕ
 bookOf l = startOf l .args .book .now
 
 can-run : (l : tie.At-loop Inv-loop μ-loop) → mayRunFrom (bookOf l) (startOf l .args .next) (startOf l .args .reached) ≡ true
-can-run l = let tested = l .before .before .before .before .before in sym (tested .before .may-run .ensures) ∙ not-false _ (tested .if1 .left)
+can-run l = let tested = l .before .before .before .before .before .before in sym (tested .before .may-run .ensures) ∙ not-false _ (tested .if1 .left)
 
 -- as many places as there are
 long-table : (c : tie.Start Inv-loop μ-loop) → length (c .args .reached .table) ≡ longestTable
@@ -64,19 +63,19 @@ bounded-out c = omega arith
 
 loop-holds : tie.Need-loop-holds Inv-loop μ-loop
 loop-holds c =
-    let tested = c .before .before .before .before in
+    let tested = c .before .before .before .before .before in
     let a = tested .before .before .before .before in
-    (bounds _ _ _ _ _ (sym (tested .before .may-run .ensures) ∙ not-false _ (tested .if1 .left)), long-table a, many-areas a, refl, λ o p w. w, refl, refl, c .before .numbers-of .ensures, omega arith, λ q. omega arith, omega arith)
+    (bounds _ _ _ _ _ (sym (tested .before .may-run .ensures) ∙ not-false _ (tested .if1 .left)), long-table a, many-areas a, refl, λ o p w. w, refl, refl, c .before .numbers-of .ensures, omega arith, omega arith, omega arith)
 
 -- the line taken before the holding changes, the area looked up before it was taken, the line's end before that, and the loop's turn
 abbrev takenOf : tie.At-match2-came Inv-loop μ-loop → tie.After-take-line Inv-loop μ-loop
-takenOf c = c .before .before .before .before .before .before .before
+takenOf c = c .before .before .before .before .before .before
 
 abbrev lookedOf : tie.At-match2-came Inv-loop μ-loop → tie.At-match-came Inv-loop μ-loop
 lookedOf c = takenOf c .before .before .before .before .before
 
 abbrev endOf : tie.At-match-came Inv-loop μ-loop → tie.After-end-of Inv-loop μ-loop
-endOf c = c .before .before .before .before .before .before
+endOf c = c .before .before .before .before .before
 
 abbrev loopOf : tie.At-match-came Inv-loop μ-loop → tie.At-loop Inv-loop μ-loop
 loopOf c = endOf c .before .before
@@ -104,14 +103,15 @@ few : (c : tie.At-match-came Inv-loop μ-loop) → let l = loopOf c .loop in (l 
 few c = let b = loopOf c .loop .inv .0 in omega (arith, b .some, b .others, b .book, turns (endOf c) .0)
 
 -- the area looked up
-looks : (c : tie.At-match-came Inv-loop μ-loop) → let found = c .before .before .find .result .found in
+looks : (c : tie.At-match-came Inv-loop μ-loop) → let found = c .before .find .result .found in
     (c .match .found ≡ found) × (c .match .named ≡ areaAt (loopOf c .loop .holding) found)
 looks c =
+    let none = loopOf c .before .before .before .before .empty-area .ensures in
     ⊎-elim
     (λ a. (a .5 ∙ sym (a .1 .given .1), a .6 ∙ area-here _ _ _ _ (a .1 .given .1) (omega (arith, a .3 .taken, loopOf c .loop .inv .2))))
     (⊎-elim
-    (λ a. (a .4 ∙ sym (a .1 .given .1), a .5 ∙ c .before .empty-area .ensures ∙ area-out _ _ _ (a .1 .given .1) (omega (arith, a .3 .left, loopOf c .loop .inv .2))))
-    (λ a. (a .2, a .3 ∙ c .before .empty-area .ensures ∙ area-nowhere _ _ (a .1 .given .1))))
+    (λ a. (a .4 ∙ sym (a .1 .given .1), a .5 ∙ none ∙ area-out _ _ _ (a .1 .given .1) (omega (arith, a .3 .left, loopOf c .loop .inv .2))))
+    (λ a. (a .2, a .3 ∙ none ∙ area-nowhere _ _ (a .1 .given .1))))
     (c .match .came)
 
 -- the holding after a line
@@ -148,25 +148,24 @@ loop-less c = let e = endOf (lookedOf c) in omega (arith, ended e, turns e .0)
 loop-again : tie.Need-loop-again Inv-loop μ-loop
 loop-again c =
     let counts = c .before .counted in
-    let put = c .before .before .before .before .put-for .ensures in
+    let put = c .before .before .before .before .put-line .ensures in
     let t = takenOf c in
     let k = lookedOf c in
     let e = endOf k in
     let l = loopOf k in
-    let print = startOf l .args .print in
     let book = bookOf l in
     let line = take (e .end-of .result - l .loop .i) (drop (l .loop .i) book) in
     let turn = t .take-line .ensures in
     let leaves = turn .leaves in
-    let read = k .before .before .before .before .parse .ensures in
-    let names = k .before .before .find .ensures in
+    let read = k .before .before .before .parse .ensures in
+    let names = k .before .find .ensures in
     let found = looks k .0 in
     let area = looks k .1 ∙ ap (areaAt _) (sym (looks k .0)) in
-    let six = l .before .before .before .before .schedule-six .ensures in
+    let six = l .before .before .before .before .before .schedule-six .ensures in
     let runs =
     turn-runs (runAt l) (l .loop .numbers) (l .loop .inv .7) line _ _ _ _ _ (t .take-line .result) (turn .comes) read names found area six _ _ leaves _ _ _ (counts .result)
     (stands c) (counts .ensures .0) refl refl in
-    let puts = turn-puts (runAt l) (l .loop .numbers) (l .loop .inv .7) line _ _ _ _ _ (t .take-line .result) (turn .comes) read names found area six print in
+    let puts = turn-prints (runAt l) (l .loop .numbers) (l .loop .inv .7) line _ _ _ _ _ (t .take-line .result) (turn .comes) read names found area six in
     let inside = turns e .0 in
     let some = turns e .1 in
     let b = l .loop .inv .0 in (
@@ -183,13 +182,13 @@ loop-again c =
       λ o p w.
           l .loop .inv .4 o p
           (wrote-as
-          (from-line print (runAt l) line _ _ _ runs (lines-taken book (l .loop .i) (e .end-of .result) (l .loop .left) inside some (e .end-of .ensures)))
+          (printed-line (runAt l) line _ _ _ runs (lines-taken book (l .loop .i) (e .end-of .result) (l .loop .left) inside some (e .end-of .ensures)))
           (wrote-then (wrote-as puts (put .wrote)) w)),
       run-line book (l .loop .i) (e .end-of .result) (l .loop .left) inside some (e .end-of .ensures) (runAt l) _ runs ∙ l .loop .inv .5,
       left-line book (l .loop .i) (e .end-of .result) (l .loop .left) inside some (e .end-of .ensures) ∙ l .loop .inv .6,
       numbered c,
       omega (arith, put .wrote .place),
-      λ q. omega (arith, put .wrote .place, put .few q, l .loop .inv .9 q, some),
+      omega (arith, put .wrote .place, put .few, l .loop .inv .9, some),
       omega (arith, ended e, some, l .loop .inv .10),
     )
 
@@ -197,7 +196,7 @@ loop-again c =
 returns : tie.Need-returns Inv-loop μ-loop
 returns c =
     let a = c .before .before .before .before .args in
-    runs-not (a .print) (a .book .now) (a .next) (a .reached) (a .most) (a .out .now) (a .at) _ _ (sym (c .before .may-run .ensures) ∙ not-true _ (c .if1 .taken)) refl refl
+    runs-not (a .book .now) (a .next) (a .reached) (a .most) (a .out .now) (a .at) _ _ (sym (c .before .may-run .ensures) ∙ not-true _ (c .if1 .taken)) refl refl
 
 -- how far the loop has come
 abbrev partAt : tie.At-loop Inv-loop μ-loop → Part
@@ -213,31 +212,28 @@ returns-2 c =
     let a = startOf l .args in
     let stop = stopped (bookOf l) (l .loop .i) (l .loop .left) (c .loop-test .left) in
     let none = wrote-none (l .loop .out) (l .loop .at) (omega (arith, l .loop .inv .3, bounded-out (startOf l))) (l .loop .inv .8) in
-    let ran : RunOf (a .print) (bookOf l) (a .next) (a .reached) (a .most) (a .out .now) (a .at) (l .loop .out) (partAt l) = record {
-      wrote = l .loop .inv .4 _ _ (wrote-as (from-none (a .print) (runAt l) _ (stop .none)) none);
+    let ran : RunOf (bookOf l) (a .next) (a .reached) (a .most) (a .out .now) (a .at) (l .loop .out) (partAt l) = record {
+      wrote = l .loop .inv .4 _ _ (wrote-as (printed-none (runAt l) _ (stop .none)) none);
       run = run-none (runAt l) _ (stop .none) ∙ l .loop .inv .5;
       left = stop .rest ∙ l .loop .inv .6;
       may = may _ _ _ _ _ (l .loop .inv .0);
       on = λ many inside. ⊎-elim (λ over. omega (arith, over, inside)) (λ spent. omega (arith, l .loop .inv .10, many, spent)) (stop .reason);
-      short = λ q. omega (arith, l .loop .inv .9 q);
+      short = omega (arith, l .loop .inv .9);
     } in
-    runs _ _ _ _ _ _ _ _ _ (can-run l) ran
+    runs _ _ _ _ _ _ _ _ (can-run l) ran
 
 pub put-lines-spec : {M : Type 1} → Rattle.book_run.proofs.put_lines.Statement.statement M
-put-lines-spec = tie.close (tie.spec Inv-loop μ-loop (λ c κs. search needs) returns (λ c κs. search needs) (λ c κs. search needs) loop-holds (λ c κs. search needs)
+put-lines-spec = tie.close (tie.spec Inv-loop μ-loop (λ c κs. search needs) returns (λ c κs. search needs) (λ c κs. search needs) (λ c κs. search needs) loop-holds (λ c κs. search needs)
     (λ c. omega (arith, ended c)) (λ c. omega (arith, ended c)) (λ c. omega (arith, ended c)) (λ c κs. search needs)
     (λ c. all-numbered (c .before .before .before .before .before)) (λ c κs. search needs)
-    (λ c κs. search needs) (λ c. search needs) (λ c. omega arith)
-    (λ c. omega (arith, c .if2 .taken, c .before .before .before .before .before .before .before .before .before .before .before .loop .inv .2))
+    (λ c. search needs) (λ c. omega arith)
+    (λ c. omega (arith, c .if2 .taken, c .before .before .before .before .before .before .before .before .before .before .loop .inv .2))
     (λ c. search needs) (λ c. search needs) (λ c. omega (arith, ended (endOf (c .before .before .before))))
     (λ c. omega (arith, ended (endOf (c .before .before .before)))) (λ c. omega (arith, ended (endOf (c .before .before .before)))) table-stands
     (λ c. omega (arith, few (c .before .before .before .before .before .before))) (λ c. omega (arith, few (c .before .before .before .before .before .before)))
-    (λ c. omega (arith, ended (endOf (c .before .before .before .before .before .before))))
-    (λ c. omega (arith, ended (endOf (c .before .before .before .before .before .before))))
-    (λ c. omega (arith, ended (endOf (c .before .before .before .before .before .before))))
     (λ c κs. search needs) (λ c κs. search needs)
-    (λ c. omega (arith, c .counted .ensures .1, few (c .before .before .before .before .before .before .before .before .before .before .before)))
+    (λ c. omega (arith, c .counted .ensures .1, few (c .before .before .before .before .before .before .before .before .before .before)))
     (λ c. omega (arith, c .counted .ensures .1))
-    (λ c. omega (arith, c .counted .ensures .1, few (c .before .before .before .before .before .before .before .before .before .before .before)))
+    (λ c. omega (arith, c .counted .ensures .1, few (c .before .before .before .before .before .before .before .before .before .before)))
     (λ c. search needs) (λ c. omega arith) (λ c. search needs) (λ c. omega arith) (λ c. omega arith) (λ c. search needs) add-i sub-left loop-less loop-again
     (λ c. c .before .loop .inv .3) returns-2)

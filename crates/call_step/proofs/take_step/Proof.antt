@@ -1,68 +1,29 @@
--- `call_step::take_step` meets its contract: the verdict of the table, of the statement and of the step, and what the step leaves.
-use Rattle.laws.proofs.{_≤_, sym, _∙_, arith, length, needs}
-use Rattle.call_output.proofs.Given.{gives-refused, gives-written, gives-as}
-use Rattle.call_step.proofs.Acts.{step-weighed, step-places, step-written}
+-- `call_step::take_step` meets its contract: an act that looks no rate up is the same under any default table.
+use Rattle.laws.proofs.{ℕ, sym, ap, _∙_, List, needs}
+use Rattle.schedules.specs.{schedule6}
+use Rattle.step.specs.{acted}
+use Rattle.step.proofs.Defaults.{by-any}
 use Rattle.call_step.proofs.take_step.Statement.{statement}
 use Rattle.call_step.proofs.take_step.Tie as tie
 
--- what was called, from the last weighing
-abbrev statedOf : tie.After-least2 → tie.After-least
-statedOf v = v .before .before
+take-under-requires : tie.Need-take-under-requires
+take-under-requires c κs looked =
+    let six = c .before .before in
+    let a = six .before .before .before .before .before .before .args in
+    ap (λ (l : List ℕ). acted (a .own .now) l looked (a .on .act)) (six .schedule-six .ensures)
 
-abbrev actedOf : tie.After-least2 → tie.After-act-on
-actedOf v = statedOf v .before
-
-abbrev passedOf : tie.After-least2 → tie.After-pass
-passedOf v = actedOf v .before .before
-
--- the verdict is clear: the places of the area lie in the bytes
-in-bytes : (c : tie.After-enum-told) → let p = passedOf (c .before .before) in
-    let s = p .before .before .before .before .args .statement .now in
-    (p .pass .result .body ≤ p .pass .result .from) × (p .pass .result .from ≤ length s) × (p .pass .result .to ≤ length s)
-in-bytes c =
-    let v = c .before .before in
-    let p = passedOf v in
-    let x = p .before .before .before .before .args in
-    step-places (x .own .now) (x .statement .now) (x .on) _ _ _ _ _ (p .pass .ensures) (actedOf v .act-on .ensures) (statedOf v .least .ensures)
-    (v .before .judge .ensures) (v .least2 .ensures) (c .enum-told .given .1)
-
-sub-write-changed : tie.Need-sub-write-changed
-sub-write-changed c = in-bytes (c .before) .0
-
-part-write-changed-start : tie.Need-part-write-changed-start
-part-write-changed-start c = omega (arith, in-bytes (c .before))
-
-part-write-changed-end : tie.Need-part-write-changed-end
-part-write-changed-end c = omega (arith, in-bytes (c .before))
-
-sub-write-changed-2 : tie.Need-sub-write-changed-2
-sub-write-changed-2 c = in-bytes (c .before .before) .2
-
-part-write-changed-start-2 : tie.Need-part-write-changed-start-2
-part-write-changed-start-2 c = omega (arith, in-bytes (c .before .before))
+take-under-requires-2 : tie.Need-take-under-requires-2
+take-under-requires-2 c κs looked =
+    let tested = c .before .before in
+    let a = tested .before .before .before .before .before .args in
+    by-any (a .own .now) _ schedule6 looked (a .on .act) (sym (tested .before .looks-up .ensures) ∙ tested .if1 .left)
 
 returns : tie.Need-returns
-returns c =
-    let v = c .before .before .before in
-    gives-refused _ _ _ _
-    (sym (step-weighed _ _ _ _ _ _ _ _ (passedOf v .pass .ensures) (actedOf v .act-on .ensures) (statedOf v .least .ensures) (v .before .judge .ensures) (v .least2 .ensures))
-    ∙ c .before .v .given .1)
+returns c = c .before .before .take-under .ensures
 
 returns-2 : tie.Need-returns-2
-returns-2 c =
-    let w = c .before .before in
-    let told = w .before .before .before .before .before in
-    let v = told .before .before in
-    let p = passedOf v in
-    let a = actedOf v in
-    let s = statedOf v in
-    let clear = told .enum-told .given .1 in
-    gives-as (step-weighed _ _ _ _ _ _ _ _ (p .pass .ensures) (a .act-on .ensures) (s .least .ensures) (v .before .judge .ensures) (v .least2 .ensures))
-    (step-written _ _ _ _ _ _ _ _ (p .pass .ensures) (a .act-on .ensures) (s .least .ensures) (v .before .judge .ensures) (v .least2 .ensures) clear)
-    (gives-written _ _ _ _ _ clear (w .write-changed .ensures))
+returns-2 c = c .before .before .take-under2 .ensures
 
 pub take-step-spec : {M : Type 1} → statement M
-take-step-spec = tie.close (tie.spec (λ c κs. search needs) (λ c κs. search needs) (λ c κs. search needs) (λ c κs. search needs) (λ c κs. search needs)
-    (λ c. search needs) (λ c. search needs)
-    sub-write-changed part-write-changed-start part-write-changed-end sub-write-changed-2 part-write-changed-start-2 (λ c. search needs)
-    (λ c κs. search needs) returns (λ c. search needs) returns-2)
+take-step-spec = tie.close (tie.spec (λ c κs. search needs) (λ c κs. search needs) (λ c. search needs) take-under-requires (λ c. search needs) returns
+    (λ c. search needs) (λ c. search needs) (λ c. search needs) take-under-requires-2 (λ c. search needs) returns-2)

@@ -1,4 +1,4 @@
--- `holding::empty_holding` meets its contract: sixteen places hold the empty area.
+-- `holding::empty_holding` meets its contract: every place holds the empty area.
 use Rattle.laws.proofs.{needs}
 use Rattle.holding.proofs.empty_holding.Tie as tie
 

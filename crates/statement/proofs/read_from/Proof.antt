@@ -1,13 +1,13 @@
 -- `statement::read_from` meets its contract: what was read is tested, and by that the holding is taken or not.
 use Rattle.laws.proofs.{ap, _∙_, needs}
 use Rattle.statement_parse.specs.{HoldingRead}
-use Rattle.statement.specs.{acceptable, readIf, readOf}
+use Rattle.statement.specs.{acceptable, readIf, readWithin}
 use Rattle.statement.proofs.Laws.{taken, refused}
 use Rattle.statement.proofs.read_from.Statement.{statement}
 use Rattle.statement.proofs.read_from.Tie as tie
 
 returns : tie.Need-returns
-unfolding readOf
+unfolding readWithin
 returns c =
     let s = c .before .before .before .before .before .args .bytes .now in
     let read = c .before .before .before .read-holding in
@@ -15,7 +15,7 @@ returns c =
     ∙ ap (λ (r : HoldingRead). readIf (acceptable s r) (r .holding)) (read .ensures)
 
 returns-2 : tie.Need-returns-2
-unfolding readOf
+unfolding readWithin
 returns-2 c =
     let t = c .before in
     let s = t .before .before .before .before .before .args .bytes .now in

@@ -1,11 +1,11 @@
--- `statement_carried::amounts` meets its contract, which joins the same tests; sixteen sub-areas keep the product small.
+-- `statement_carried::amounts` meets its contract, which joins the same tests; the count of sub-areas keeps the product small.
 use Rattle.laws.proofs.{refl, needs}
 use Rattle.laws.specs.{allOf}
-use Rattle.statement_carried.specs.{amountsCarried}
+use Rattle.statement_carried.specs.{amountsWithin}
 use Rattle.statement_carried.proofs.amounts.Tie as tie
 
 returns : tie.Need-returns
-unfolding amountsCarried allOf
+unfolding amountsWithin allOf
 returns c = refl
 
 pub amounts-spec : {M : Type 1} → Rattle.statement_carried.proofs.amounts.Statement.statement M

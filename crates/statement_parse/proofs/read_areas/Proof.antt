@@ -1,7 +1,7 @@
 -- `statement_parse::read_areas` meets its contract. The loop's invariant: the areas left to read give, from here on, what all of them give from the start.
 use Rattle.laws.proofs.{ℕ, _-_, _≤_, _≡_, refl, ap, _∙_, List, arith, length, replicate, length-set, needs}
 use Rattle.holding.specs.{Area, mostAreas, emptyArea}
-use Rattle.statement_parse.specs.{AreaRead, areasFrom, areasAt}
+use Rattle.statement_parse.specs.{AreaRead, areasFrom, areasFromWithin, areasWithin}
 use Rattle.statement_parse.proofs.Items.{items-more, items-done}
 use Rattle.statement_parse.proofs.read_areas.Tie as tie
 
@@ -19,7 +19,7 @@ loop-holds c =
     (omega arith, refl, simp (c .empty-area .ensures, all))
 
 loop-again : tie.Need-loop-again Inv-loop μ-loop
-unfolding areasFrom
+unfolding areasFromWithin
 loop-again c =
     let l = c .before .before .before .loop in
     let read = c .before .read-area .ensures in (
@@ -31,7 +31,7 @@ loop-again c =
     )
 
 returns : tie.Need-returns Inv-loop μ-loop
-unfolding areasAt areasFrom
+unfolding areasWithin areasFromWithin
 returns c =
     let l = c .before .loop in
     ap (λ (x : List Area × ℕ). record { areas = x .0; next = x .1 }) (items-done _ _ _ (l .i) (l .areas) (l .next) (c .loop-test .left) ∙ l .inv .2)

@@ -1,10 +1,10 @@
 -- `statement_parse::read_holding` meets its contract: each part is read at the place after the one before, as in the definition.
 use Rattle.laws.proofs.{needs}
-use Rattle.statement_parse.specs.{holdingAt}
+use Rattle.statement_parse.specs.{holdingWithin}
 use Rattle.statement_parse.proofs.read_holding.Tie as tie
 
 returns : tie.Need-returns
-unfolding holdingAt
+unfolding holdingWithin
 returns c =
     let areas = c .before in
     simp (areas .read-areas .ensures, areas .before .number .ensures .0, areas .before .before .start .ensures)

@@ -23,11 +23,10 @@ returns c =
       x .before .before .weigh .ensures,
       x .before .before .before .is-sub .ensures,
       y .is-area .ensures,
-      y .before .sub-at .ensures,
-      y .before .before .find-sub .ensures,
+      y .before .before .pre .1,
+      y .before .before .pre .0,
     )
 
 pub verdict-spec : {M : Type 1} → Rattle.step_clear.proofs.verdict.Statement.statement M
 verdict-spec = tie.close (tie.spec (λ c κs. search needs) (λ c κs. search needs) (λ c κs. search needs) (λ c κs. search needs) (λ c κs. search needs)
-    (λ c κs. search needs) (λ c κs. search needs) (λ c κs. search needs) (λ c κs. search needs) (λ c κs. search needs) (λ c κs. search needs)
-    (λ c κs. search needs) (λ c κs. search needs) returns)
+    (λ c κs. search needs) (λ c κs. search needs) (λ c κs. search needs) (λ c κs. search needs) (λ c κs. search needs) (λ c κs. search needs) returns)

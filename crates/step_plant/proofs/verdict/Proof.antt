@@ -26,11 +26,11 @@ returns c =
       y .weigh .ensures,
       y .before .is-sub .ensures,
       y .before .before .is-area .ensures,
-      y .before .before .before .sub-at .ensures,
-      z .find-sub .ensures,
+      z .pre .1,
+      z .pre .0,
     )
 
 pub verdict-spec : {M : Type 1} → Rattle.step_plant.proofs.verdict.Statement.statement M
 verdict-spec = tie.close (tie.spec (λ c κs. search needs) (λ c κs. search needs) (λ c κs. search needs) (λ c κs. search needs) (λ c κs. search needs)
     (λ c κs. search needs) (λ c κs. search needs) (λ c κs. search needs) (λ c κs. search needs) (λ c κs. search needs) (λ c κs. search needs)
-    (λ c κs. search needs) (λ c κs. search needs) (λ c κs. search needs) (λ c κs. search needs) returns)
+    (λ c κs. search needs) (λ c κs. search needs) returns)

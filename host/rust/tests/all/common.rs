@@ -1,5 +1,6 @@
 use carbon_twin::call::{CallOfThree, Calls, TWIN};
 use carbon_twin::engine::engine_calls;
+use carbon_twin::header::size;
 
 pub const EMPTY: &[u8] = b"H,0\n";
 
@@ -15,9 +16,23 @@ pub fn calls() -> Vec<(&'static str, CallOfThree)> {
     both_calls().into_iter().map(|(name, calls)| (name, calls.line)).collect()
 }
 
-/// The bytes written, or the refusal's number. The output has room for any answer.
+/// The bytes written, or the refusal's number: the same with room for any answer, which is written without being
+/// measured first, and with no byte of room to spare.
 pub fn answer(call: CallOfThree, statement: &[u8], table: &[u8], line: &[u8]) -> Result<Vec<u8>, i64> {
-    let mut out = vec![0xA5; 12_000];
+    let answer = answer_into(call, statement, table, line, size("CARBON_OUT_BYTES"));
+    let need = answer.as_ref().map_or(0, Vec::len);
+    assert_eq!(answer_into(call, statement, table, line, need), answer, "into {need} bytes");
+    answer
+}
+
+pub fn answer_into(
+    call: CallOfThree,
+    statement: &[u8],
+    table: &[u8],
+    line: &[u8],
+    room: usize,
+) -> Result<Vec<u8>, i64> {
+    let mut out = vec![0xA5; room];
     let length = call(statement, table, line, &mut out);
     let kept = if length < 0 { 0 } else { length as usize };
     assert!(out[kept..].iter().all(|&byte| byte == 0xA5), "bytes past the result are touched");

@@ -2,6 +2,8 @@
 
 use crate::common::{answer, both_calls, Recorder};
 use carbon_twin::call::Calls;
+use carbon_twin::header::size;
+use carbon_twin::ranges::{BOOK_BYTES, MOST_AREAS, MOST_SUBS};
 
 pub const QUOTED_HEADING: &str = "\"area\",\"sub\",\"hectares\",\"type\",\"planted\"\r\n";
 
@@ -31,9 +33,9 @@ const BOOK_EXPORTED: &str = "\"8\",\"12\",\"10.04\",\"D\",\"2008\"\r
 \"999\",\"99\",\"10000\",\"P9\",\"2199\"\r
 ";
 
-/// The room that the header calls CARBON_EXPORT_BYTES, and one byte more.
-fn export(calls: Calls, book: &str) -> Result<String, i64> {
-    let mut out = vec![0xA5; 196_653 + 1];
+/// With room for any export, and one byte more.
+pub fn export(calls: Calls, book: &str) -> Result<String, i64> {
+    let mut out = vec![0xA5; size("CARBON_EXPORT_BYTES") + 1];
     let length = (calls.export)(book.as_bytes(), &mut out);
     let kept = usize::try_from(length).unwrap_or(0);
     assert!(out[kept..].iter().all(|&byte| byte == 0xA5), "bytes past the result are touched");
@@ -59,7 +61,7 @@ fn the_export_of_a_book() {
 #[test]
 fn a_book_of_65536_bytes_is_exported_and_a_longer_one_is_1() {
     let opened = "A,7,2010\nS,7,1,1,B,0\n";
-    let largest = opened.to_string() + &"\n".repeat(65_536 - opened.len());
+    let largest = opened.to_string() + &"\n".repeat(BOOK_BYTES - opened.len());
     for (name, calls) in both_calls() {
         let exported = format!("{QUOTED_HEADING}\"7\",\"1\",\"1\",\"B\",\"0\"\r\n");
         assert_eq!(export(calls, &largest), Ok(exported), "{name}");
@@ -79,8 +81,9 @@ fn accepted(calls: Calls, book: &str, letters: &[char]) -> (Vec<String>, Vec<u8>
 /// "Importing an export onto the book's accepted A entries alone must give those S entries back."
 #[test]
 fn exports_imported_onto_the_a_entries_alone() {
-    let full: String = (1..=17).map(|area| format!("A,{area},2010\n")).collect();
-    let subs = (1..=17).flat_map(|sub| (1..=16).map(move |area| format!("S,{area},{sub},{}.{sub},H,1990\n", area + 1)));
+    let full: String = (1..=MOST_AREAS + 1).map(|area| format!("A,{area},2010\n")).collect();
+    let subs = (1..=MOST_SUBS + 1)
+        .flat_map(|sub| (1..=MOST_AREAS).map(move |area| format!("S,{area},{sub},{}.{sub},H,1990\n", area + 1)));
     let full = full + &subs.collect::<String>() + "W,3\n";
     for (name, calls) in both_calls() {
         for book in

@@ -2,7 +2,9 @@
 
 use crate::common::{both_calls, Recorder, EMPTY};
 use carbon_twin::call::CallOfOne;
+use carbon_twin::header::size;
 use carbon_twin::listing::book;
+use carbon_twin::ranges::{BOOK_BYTES, MOST_AREAS, RECEIVED_BY_A_RETURN};
 
 /// Three areas that receive units: the second surrenders a part of them and the third is withdrawn.
 const THREE_AREAS: &str = "T,G,D,0,10,30,20,60
@@ -30,7 +32,10 @@ F,120,50,70
 E,12,1
 ";
 
-const LONGEST: &str = "F,3072000000000,1536000000000,1536000000000\n";
+const LONGEST: &str = "F,9216000000000,4608000000000,4608000000000\n";
+
+/// What an area has received at most: a return is filed for every year.
+const MOST_RECEIVED: u64 = 192 * RECEIVED_BY_A_RETURN;
 
 fn listing(text: &str) -> String {
     String::from_utf8(book(text.as_bytes())).expect("a listing is text")
@@ -47,8 +52,8 @@ fn foot(call: CallOfOne, statement: &str) -> Result<String, i64> {
 }
 
 fn of_sixteen_areas(received: u64, surrendered: u64) -> String {
-    let areas = (1..=16).map(|number| format!("A,{number},2008,2200,0,0,192,0,{received},{surrendered},0\n"));
-    format!("H,16\n{}", areas.collect::<String>())
+    let areas = (1..=MOST_AREAS).map(|number| format!("A,{number},2008,2200,0,0,192,0,{received},{surrendered},0\n"));
+    format!("H,{MOST_AREAS}\n{}", areas.collect::<String>())
 }
 
 #[test]
@@ -72,7 +77,7 @@ fn areas_without_returns() {
 
 #[test]
 fn an_oversized_book_has_no_foot() {
-    let largest = format!("{THREE_AREAS}{}", "\n".repeat(65_536 - THREE_AREAS.len()));
+    let largest = format!("{THREE_AREAS}{}", "\n".repeat(BOOK_BYTES - THREE_AREAS.len()));
     assert!(listing(&largest).contains("\nF,120,50,70\nE,12,"));
     assert_eq!(listing(&(largest + "\n")), "X,0,1\nE,0,1\n");
 }
@@ -99,8 +104,8 @@ fn the_foot_of_a_statement_is_the_listings() {
 #[test]
 fn the_feet_of_statements() {
     let withdrawn = "H,1\nA,7,2010,2011,0,1,1,0,5,5,0\n";
-    let beside = "H,2\nA,7,2010,2011,0,1,1,0,5,5,0\nA,8,2010,2011,0,0,1,0,1000000000,1,0\n";
-    let cases = [("H,0\n", "F,0,0,0\n"), (withdrawn, "F,5,5,0\n"), (beside, "F,1000000005,6,999999999\n")];
+    let beside = "H,2\nA,7,2010,2011,0,1,1,0,5,5,0\nA,8,2010,2011,0,0,1,0,3000000000,1,0\n";
+    let cases = [("H,0\n", "F,0,0,0\n"), (withdrawn, "F,5,5,0\n"), (beside, "F,3000000005,6,2999999999\n")];
     for (name, calls) in both_calls() {
         for (statement, expected) in cases {
             assert_eq!(foot(calls.foot, statement), Ok(expected.to_string()), "{name}: {statement}");
@@ -108,21 +113,21 @@ fn the_feet_of_statements() {
     }
 }
 
-/// The header's CARBON_FOOT_BYTES.
 #[test]
 fn the_longest_foot_has_44_bytes() {
-    assert_eq!(LONGEST.len(), 44);
+    assert_eq!((LONGEST.len(), size("CARBON_FOOT_BYTES")), (44, 44));
     for (name, calls) in both_calls() {
-        let most = foot(calls.foot, &of_sixteen_areas(192_000_000_000, 96_000_000_000));
+        let most = foot(calls.foot, &of_sixteen_areas(MOST_RECEIVED, MOST_RECEIVED / 2));
         assert_eq!(most, Ok(LONGEST.to_string()), "{name}");
-        let all_kept = foot(calls.foot, &of_sixteen_areas(192_000_000_000, 0));
-        assert_eq!(all_kept, Ok("F,3072000000000,0,3072000000000\n".to_string()), "{name}");
+        let all_kept = foot(calls.foot, &of_sixteen_areas(MOST_RECEIVED, 0));
+        assert_eq!(all_kept, Ok("F,9216000000000,0,9216000000000\n".to_string()), "{name}");
     }
 }
 
 #[test]
 fn statements_that_have_no_foot() {
-    let most = of_sixteen_areas(192_000_000_000, 0);
+    let most = of_sixteen_areas(MOST_RECEIVED, 0);
+    let one_beyond = (MOST_RECEIVED + 1).to_string();
     let refused = [
         String::new(),
         "H,0".to_string(),
@@ -131,8 +136,8 @@ fn statements_that_have_no_foot() {
         "H,1\nA,7,2010,2011,0,0,1,0,5,6,0\n".to_string(),
         "H,1\nA,7,2010,2011,0,1,1,0,5,4,0\n".to_string(),
         "H,1\nA,7,2010,2011,0,0,1,0,05,5,0\n".to_string(),
-        "H,1\nA,7,2010,2011,0,0,1,0,1000000001,0,0\n".to_string(),
-        most.replacen("192000000000", "192000000001", 1),
+        "H,1\nA,7,2010,2011,0,0,1,0,3000000001,0,0\n".to_string(),
+        most.replacen(&MOST_RECEIVED.to_string(), &one_beyond, 1),
         most[..most.len() - 1].to_string(),
     ];
     for (name, calls) in both_calls() {
@@ -145,7 +150,7 @@ fn statements_that_have_no_foot() {
 
 #[test]
 fn the_room_of_a_foot() {
-    let longest = of_sixteen_areas(192_000_000_000, 96_000_000_000);
+    let longest = of_sixteen_areas(MOST_RECEIVED, MOST_RECEIVED / 2);
     let cases = [(EMPTY, &b"F,0,0,0\n"[..]), (longest.as_bytes(), LONGEST.as_bytes())];
     for (name, calls) in both_calls() {
         for (statement, foot) in cases {

@@ -9,3 +9,4 @@ mod refusals;
 mod sheets;
 mod statement_forms;
 mod statements;
+mod sub_areas;

@@ -1,6 +1,8 @@
-//! Every refusal that the call can give, where two apply the smaller, and the edges of the state's rules.
+//! Every refusal that the call can give, where two apply the smaller, and the edges of the state's rules. 26 is tried in
+//! sub_areas.
 
 use crate::common::{answer, calls, Recorder, EMPTY};
+use carbon_twin::ranges::MOST_AREAS;
 
 /// One area, opened in 2010, cleared and planted in 2011, with one return.
 const FILED: &str = "H,1\nA,7,2010,2011,2011,0,1,135000,55,0,2\nS,1,100,D,2011,D,3,2011\nS,2,10,B,0,B,0,0\n";
@@ -8,13 +10,8 @@ const FRESH: &str = "H,1\nA,7,2010,2010,0,0,0,0,0,0,1\nS,1,10,B,0,B,0,0\n";
 const WITHDRAWN: &str = "H,1\nA,7,2010,2011,0,1,1,0,5,5,0\n";
 
 fn sixteen_areas() -> String {
-    let areas: String = (1..=16).map(|number| format!("A,{number},2010,2010,0,0,0,0,0,0,0\n")).collect();
-    format!("H,16\n{areas}")
-}
-
-fn sixteen_subs(area: &str) -> String {
-    let subs: String = (1..=16).map(|number| format!("S,{number},10,B,0,B,0,0\n")).collect();
-    format!("H,1\n{area}\n{subs}")
+    let areas: String = (1..=MOST_AREAS).map(|number| format!("A,{number},2010,2010,0,0,0,0,0,0,0\n")).collect();
+    format!("H,{MOST_AREAS}\n{areas}")
 }
 
 fn assert_refused(statement: &str, table: &[u8], line: &str, number: i64) {
@@ -75,9 +72,6 @@ fn by_the_state() {
     }
     assert_refused(&sixteen_areas(), &[], "A,17,2010", 24);
     assert_refused(&sixteen_areas(), &[], "A,16,2010", 21);
-    let unfiled = sixteen_subs("A,7,2010,2010,0,0,0,0,0,0,16");
-    assert_refused(&unfiled, &[], "S,7,17,1,D,2011", 26);
-    assert_refused(&unfiled, &[], "S,7,16,1,D,2011", 25);
 }
 
 #[test]

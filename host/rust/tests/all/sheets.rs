@@ -3,6 +3,7 @@
 use crate::common::{answer, both_calls, Recorder};
 use crate::exports::QUOTED_HEADING;
 use carbon_twin::call::Calls;
+use carbon_twin::ranges::{MOST_AREAS, MOST_SUBS};
 
 const HEADING: &str = "area,sub,hectares,type,planted\r\n";
 
@@ -160,11 +161,11 @@ fn every_number_that_s_gives() {
 fn doubles_and_the_limit_by_earlier_rows() {
     assert_refused(OPENED, &sheet("7,1,1,B,0|8,1,1,B,0|7,1,2,D,2000"), 25);
     let subs = |most: usize| (1..=most).map(|sub| format!("7,{sub},1,B,0|")).collect::<String>();
-    assert_refused(OPENED, &sheet(&subs(17)), 26);
-    assert_refused(OPENED, &sheet(&(subs(16) + "7,16,1,B,0")), 25);
+    assert_refused(OPENED, &sheet(&subs(MOST_SUBS + 1)), 26);
+    assert_refused(OPENED, &sheet(&(subs(MOST_SUBS) + "7,1,1,B,0")), 25);
     for (name, calls) in both_calls() {
-        let full = import(calls, OPENED, &sheet(&(subs(16) + "8,17,1,B,0"))).expect("sixteen are taken");
-        assert_eq!(import(calls, &full, &sheet("7,17,1,B,0")), Err(26), "{name}");
+        let full = import(calls, OPENED, &sheet(&(subs(MOST_SUBS) + "8,99,1,B,0"))).expect("the limit is kept");
+        assert_eq!(import(calls, &full, &sheet("7,99,1,B,0")), Err(26), "{name}");
         assert!(import(calls, &full, &sheet("8,1,1,B,0")).is_ok(), "{name}");
     }
 }
@@ -244,10 +245,11 @@ fn a_sheet_has_no_greatest_size() {
     let long_field = format!("{HEADING}7,1,1,B,\"{}\"\r\n", "\"\"\n,".repeat(250_000));
     assert_refused(OPENED, &long_field, 1);
     for (name, calls) in both_calls() {
-        let areas: String = (1..=16).map(|area| format!("A,{area},2008,2008,0,0,0,0,0,0,0\n")).collect();
-        let all = (1..=16).flat_map(|sub| (1..=16).map(move |area| format!("{area},{sub},9999.95,P9,1900|")));
-        let full = import(calls, &format!("H,16\n{areas}"), &sheet(&all.collect::<String>()));
-        assert_eq!(full.map(|statement| statement.matches("\nS,").count()), Ok(256), "{name}");
+        let areas: String = (1..=MOST_AREAS).map(|area| format!("A,{area},2008,2008,0,0,0,0,0,0,0\n")).collect();
+        let all =
+            (1..=MOST_SUBS).flat_map(|sub| (1..=MOST_AREAS).map(move |area| format!("{area},{sub},9999.95,P9,1900|")));
+        let full = import(calls, &format!("H,{MOST_AREAS}\n{areas}"), &sheet(&all.collect::<String>()));
+        assert_eq!(full.map(|statement| statement.matches("\nS,").count()), Ok(MOST_AREAS * MOST_SUBS), "{name}");
     }
 }
 

@@ -1,6 +1,8 @@
 //! The form of a statement: "the bytes are the writer's". Whatever is written otherwise is refused under 11.
 
 use crate::statements::{area, is_read, sub};
+use crate::sub_areas::statement_of;
+use carbon_twin::ranges::{MOST_AREAS, MOST_SUBS};
 
 /// Every kind of line, and areas with sub-areas and without.
 const KEPT: &str = "H,3
@@ -118,26 +120,22 @@ fn letters_stand_where_the_form_has_them() {
     }
 }
 
-/// Counts above and below what stands, and above sixteen where so many stand.
+/// Counts above and below what stands, and above the limit where so many stand.
 #[test]
 fn counts_are_what_stands() {
-    for areas in [0, 1, 2, 4, 16, 17, 256] {
+    for areas in [0, 1, 2, 4, MOST_AREAS, MOST_AREAS + 1, 256] {
         assert_none_is_read(&[KEPT.replacen("H,3", &format!("H,{areas}"), 1)]);
     }
-    for subs in [0, 1, 3, 16, 17, 256] {
+    for subs in [0, 1, 3, 16, 17, MOST_SUBS, MOST_SUBS + 1, 256] {
         assert_none_is_read(&[KEPT.replacen("55,15,2\n", &format!("55,15,{subs}\n"), 1)]);
         assert_none_is_read(&[KEPT.replacen("0,0,0\nA,9", &format!("0,0,{}\nA,9", subs + 1), 1)]);
     }
-    let areas = |count: u64| -> String {
+    let areas = |count: usize| -> String {
         let areas: String = (1..=count).map(|number| format!("A,{number},2010,2010,0,0,0,0,0,0,0\n")).collect();
         format!("H,{count}\n{areas}")
     };
-    let subs = |count: u64| -> String {
-        let subs: String = (1..=count).map(|number| format!("S,{number},10,B,0,B,0,0\n")).collect();
-        format!("H,1\nA,7,2010,2010,0,0,0,0,0,0,{count}\n{subs}")
-    };
-    assert!(is_read(&areas(16)) && is_read(&subs(16)));
-    assert!(!is_read(&areas(17)) && !is_read(&subs(17)));
+    assert!(is_read(&areas(MOST_AREAS)) && is_read(&statement_of(MOST_SUBS)));
+    assert!(!is_read(&areas(MOST_AREAS + 1)) && !is_read(&statement_of(MOST_SUBS + 1)));
 }
 
 #[test]

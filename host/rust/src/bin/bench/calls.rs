@@ -5,12 +5,10 @@ use crate::rows::{rows, Asked, Row};
 use crate::timing::least_of_batches;
 use carbon_twin::call::{Calls, TWIN};
 use carbon_twin::engine::engine_calls;
+use carbon_twin::header::size;
 use std::cell::RefCell;
 use std::hint::black_box;
 
-/// The header's CARBON_OUT_BYTES and CARBON_EXPORT_BYTES, always enough.
-const ROOM: usize = 15_888;
-const EXPORT_ROOM: usize = 196_653;
 const FILLED: u8 = 0xA5;
 
 pub fn both() -> Result<Pair<Calls>, String> {
@@ -18,9 +16,10 @@ pub fn both() -> Result<Pair<Calls>, String> {
     Ok(Pair { engine, twin: TWIN })
 }
 
-/// An output for the row.
+/// An output for the row, of the size that is always enough.
 fn output(row: &Row) -> Vec<u8> {
-    vec![FILLED; if let Asked::Export(_) = row.asked { EXPORT_ROOM } else { ROOM }]
+    let room = if let Asked::Export(_) = row.asked { "CARBON_EXPORT_BYTES" } else { "CARBON_OUT_BYTES" };
+    vec![FILLED; size(room)]
 }
 
 /// Whether both take what the row asks, or refuse it as is due, and write the same bytes.

@@ -1,8 +1,8 @@
 //! Measures the engine beside the twin on the same bytes; built with ENGINE_ARCHIVE.
 //!
-//!   bench BOOK PROGRAM TWIN                 nanoseconds of each call, and of both programs `book` on the book
-//!   bench BOOK PROGRAM TWIN --instructions  instructions instead, as callgrind counts them
-//!   bench --only engine|twin ROW TIMES      the calls of one row and nothing else, for callgrind to count
+//!   bench PROGRAM TWIN BOOK..                 nanoseconds of each call, and of both programs `book` on each book
+//!   bench PROGRAM TWIN BOOK.. --instructions  instructions instead, as callgrind counts them
+//!   bench --only engine|twin ROW TIMES        the calls of one row and nothing else, for callgrind to count
 //!
 //! Both must first give the same answers and bytes; a difference ends the run with 1.
 
@@ -35,19 +35,26 @@ fn main() -> ExitCode {
     }
 }
 
-fn table_of(measure: Measure, programs: &Programs) -> Result<Table, String> {
-    programs.agree()?;
+fn table_of(measure: Measure, programs: &[Programs]) -> Result<Table, String> {
+    for on_book in programs {
+        on_book.agree()?;
+    }
     let mut rows = measured_calls(measure)?;
+    for on_book in programs {
+        rows.push(measured_programs(measure, on_book)?);
+    }
+    if let (Measure::Time, Some(first)) = (measure, programs.first()) {
+        rows.push(Measured { name: "of that, the start of the process".into(), cost: first.start().time() });
+    }
+    Ok(Table { unit: measure.unit(), rows })
+}
+
+fn measured_programs(measure: Measure, programs: &Programs) -> Result<Measured, String> {
     let cost = match measure {
         Measure::Time => programs.time(),
         Measure::Instructions => instructions::of_programs(programs)?,
     };
-    rows.push(Measured { name: programs.name()?, cost });
-    if let Measure::Time = measure {
-        let start = programs.start();
-        rows.push(Measured { name: "of that, the start of the process".into(), cost: start.time() });
-    }
-    Ok(Table { unit: measure.unit(), rows })
+    Ok(Measured { name: programs.name()?, cost })
 }
 
 fn measured_calls(measure: Measure) -> Result<Vec<Measured>, String> {

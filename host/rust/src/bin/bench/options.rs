@@ -20,8 +20,16 @@ impl Measure {
 
 #[derive(Debug)]
 pub enum Options {
-    Table { measure: Measure, programs: Programs },
-    Only { who: String, row: usize, times: u32 },
+    /// The programs on each book.
+    Table {
+        measure: Measure,
+        programs: Vec<Programs>,
+    },
+    Only {
+        who: String,
+        row: usize,
+        times: u32,
+    },
 }
 
 impl Options {
@@ -32,15 +40,20 @@ impl Options {
             ["--only", who, row, times] => {
                 Ok(Options::Only { who: who.to_string(), row: number(row)?, times: number(times)? })
             }
-            [book, engine, twin] => Ok(Options::table(Measure::Time, book, engine, twin)),
-            [book, engine, twin, "--instructions"] => Ok(Options::table(Measure::Instructions, book, engine, twin)),
-            _ => Err("wants BOOK PROGRAM TWIN, and --instructions or nothing".into()),
+            [engine, twin, books @ .., "--instructions"] => {
+                Ok(Options::table(Measure::Instructions, engine, twin, books))
+            }
+            [engine, twin, books @ ..] => Ok(Options::table(Measure::Time, engine, twin, books)),
+            _ => Err("wants PROGRAM TWIN BOOK.., and --instructions or nothing".into()),
         }
     }
 
-    fn table(measure: Measure, book: &str, engine: &str, twin: &str) -> Options {
-        let programs = Pair { engine: engine.into(), twin: twin.into() };
-        Options::Table { measure, programs: Programs { book: book.into(), programs } }
+    fn table(measure: Measure, engine: &str, twin: &str, books: &[&str]) -> Options {
+        let on = |book: &&str| Programs {
+            book: book.to_string(),
+            programs: Pair { engine: engine.into(), twin: twin.into() },
+        };
+        Options::Table { measure, programs: books.iter().map(on).collect() }
     }
 }
 

@@ -40,30 +40,38 @@ pub fn rows() -> Vec<Row> {
     add("one area of four sub-areas", held(1, 4), &["C,1,1,2012", "R,1,2012"]);
     add("four areas of four sub-areas", held(4, 4), &["R,4,2012"]);
     add("sixteen areas of sixteen sub-areas", held(16, 16), &["C,16,16,2012", "R,16,2012", "W,1"]);
+    add("sixteen areas of forty-eight sub-areas", held(16, 48), &["C,16,48,2012", "R,16,2012", "W,1"]);
     rows.push(Row::taken("foot, sixteen areas of sixteen sub-areas".into(), held(16, 16), Asked::Foot));
-    rows.extend(sheets());
+    rows.push(Row::taken("foot, sixteen areas of forty-eight sub-areas".into(), held(16, 48), Asked::Foot));
+    rows.extend(imports());
+    rows.extend(TAKEN_ROWS.map(export));
     rows
 }
 
-/// As many rows as a limit of 48 sub-areas lets in.
-const LONG_SHEET: usize = 768;
+/// Rows that sixteen areas take: sixteen for each of them, and as many as they may have.
+const TAKEN_ROWS: [usize; 2] = [256, MOST_AREAS * MOST_SUBS];
+const LONG_SHEET: usize = 1_024;
 
-/// Sheets onto areas without sub-areas, and the export of the book that the first of them fills.
-fn sheets() -> Vec<Row> {
-    let full = MOST_AREAS * MOST_SUBS;
-    let opened: String = (1..=MOST_AREAS).map(|area| format!("A,{area},2008\n")).collect();
-    let bare = after(opened.lines());
+/// Sheets onto areas without sub-areas.
+fn imports() -> Vec<Row> {
+    let bare = after(opened().lines());
     let import = |name: String, rows: usize| Row::taken(name, bare.clone(), Asked::Import(sheet(rows)));
-    let mut rows = vec![import(format!("import, {full} rows onto sixteen areas"), full)];
-    if full < LONG_SHEET {
-        let refused_at = full + 1;
-        let long = import(format!("import, {LONG_SHEET} rows, refused at row {refused_at}"), LONG_SHEET);
-        rows.push(Row { refusal: Some(Refusal::SubsFull), ..long });
-    }
-    let book: String = opened + &mapped(full).map(|fields| format!("S,{fields}\n")).collect::<String>();
-    let name = format!("export, {} lines, {full} of them rows", book.lines().count());
-    rows.push(Row::taken(name, Vec::new(), Asked::Export(book.into_bytes())));
-    rows
+    let taken = TAKEN_ROWS.map(|rows| import(format!("import, {rows} rows onto sixteen areas"), rows));
+    let refused_at = MOST_AREAS * MOST_SUBS + 1;
+    let long = import(format!("import, {LONG_SHEET} rows, refused at row {refused_at}"), LONG_SHEET);
+    let refused = Row { refusal: Some(Refusal::SubsFull), ..long };
+    taken.into_iter().chain([refused]).collect()
+}
+
+/// Of the book that enters so many rows.
+fn export(rows: usize) -> Row {
+    let book: String = opened() + &mapped(rows).map(|fields| format!("S,{fields}\n")).collect::<String>();
+    let name = format!("export, {} lines, {rows} of them rows", book.lines().count());
+    Row::taken(name, Vec::new(), Asked::Export(book.into_bytes()))
+}
+
+fn opened() -> String {
+    (1..=MOST_AREAS).map(|area| format!("A,{area},2008\n")).collect()
 }
 
 fn sheet(rows: usize) -> Vec<u8> {

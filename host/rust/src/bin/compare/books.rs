@@ -1,7 +1,7 @@
 //! Whole books: what a program prints for them, against what the twin prints.
 
 use crate::cases::Cases;
-use crate::kinds::{Kind, Kinds, EXPORTED, LISTED};
+use crate::kinds::{Kind, Kinds, CROWDED, EXPORTED, LISTED};
 use crate::random::Random;
 use carbon_twin::listing::book;
 use carbon_twin::ranges::BOOK_BYTES;
@@ -34,7 +34,7 @@ fn exported(book: &[u8]) -> Vec<u8> {
 
 pub fn compare(program: &str, printed_for: &Printed, books: u64, seed: u64) -> Result<String, String> {
     let mut random = Random::new(seed);
-    let mut kinds = Kinds::new(printed_for.kinds);
+    let mut kinds = Kinds::new(&[printed_for.kinds, &CROWDED].concat());
     for number in 1..=books {
         let text = a_book(&mut random);
         kinds.count(&text);
@@ -54,7 +54,7 @@ pub fn compare(program: &str, printed_for: &Printed, books: u64, seed: u64) -> R
 }
 
 /// How many lines `book` lists at a time.
-const PART: usize = 256;
+const PART: usize = 512;
 
 /// The lines of a run of cases, some of them damaged, often as many as parts have; at times cut or grown to the greatest length of a book.
 fn a_book(random: &mut Random) -> Vec<u8> {

@@ -23,9 +23,8 @@ pub struct Case {
     pub room: usize,
 }
 
-/// Room for any statement, report, table and foot.
-const STATEMENT_ROOM: usize = 9_400;
-const HEADING_BYTES: usize = "\"area\",\"sub\",\"hectares\",\"type\",\"planted\"\r\n".len();
+/// More than a line, a heading or a foot writes besides what is handed in, or the digits that a sheet adds to areas.
+const ADDED_BYTES: usize = 300;
 const MARGIN: usize = 8;
 const FILLED: u8 = 0xA5;
 
@@ -42,12 +41,14 @@ impl Case {
         Case { room: case.full_room(), ..case }
     }
 
-    /// Room for any answer. A row of an export has less than three bytes for each of its line, the end counted.
+    /// Room for any answer. A row of an export has less than three bytes for each of its line, the end counted, and so has
+    /// a sub-area's line for each of its row.
     pub fn full_room(&self) -> usize {
-        match self.asked {
-            Asked::Line | Asked::Foot | Asked::Import => STATEMENT_ROOM,
-            Asked::Export => HEADING_BYTES + 3 * (self.given.len() + 1),
-        }
+        ADDED_BYTES + self.statement.len() + self.table.len() + 3 * self.given.len()
+    }
+
+    pub fn has_full_room(&self) -> bool {
+        self.room == self.full_room()
     }
 
     pub fn line(statement: Vec<u8>, table: Vec<u8>, line: Vec<u8>) -> Case {

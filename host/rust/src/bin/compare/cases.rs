@@ -6,6 +6,7 @@ use crate::lines::{line, mood, Mood};
 use crate::random::Random;
 use crate::{damage, holdings, sheets, tables};
 use carbon_twin::call::account_line;
+use carbon_twin::header::size;
 use carbon_twin::holding::Holding;
 use carbon_twin::ranges::BOOK_BYTES;
 use carbon_twin::statement;
@@ -28,7 +29,9 @@ impl Book {
     fn new(random: &mut Random) -> Book {
         let table = if random.one_in(2) { Vec::new() } else { tables::table(random) };
         let holding = if random.one_in(4) { holdings::holding(random) } else { Holding::default() };
-        Book { mood: mood(random), holding, table, text: Vec::new(), lines_left: 10 + random.below(200) }
+        let mood = mood(random);
+        let lines_left = mood.lines(random);
+        Book { mood, holding, table, text: Vec::new(), lines_left }
     }
 }
 
@@ -85,16 +88,21 @@ impl Cases {
         case
     }
 
-    /// The line or the sheet with something damaged, with another room, or as it is.
+    /// The line or the sheet with something damaged, with another room or the one that is not measured, or as it is.
     fn changed(&mut self, mut case: Case) -> Case {
-        match self.random.below(8) {
+        let change = self.random.below(8);
+        match change {
             0 => case.given = damage::damaged(&mut self.random, &case.given),
             1 => case.statement = damage::damaged(&mut self.random, &case.statement),
             2 if self.random.one_in(3) => case.table = tables::damaged(&mut self.random, &case.table),
             3 if self.random.one_in(3) => case.statement = self.junk(),
-            4 => case.room = self.room(&case),
             _ => {}
         }
+        case.room = match change {
+            4 => self.room(&case),
+            5 => size("CARBON_OUT_BYTES"),
+            _ => case.full_room(),
+        };
         case
     }
 

@@ -1,7 +1,9 @@
 //! Small statements, alone for their foot and with lines, each field in turn at every value where a rule changes; and small
 //! sheets and books, each byte in turn changed, taken out, doubled and made the last; and sheets with every short end.
+//! Areas of many sub-areas are in crowded.
 
 use crate::case::Case;
+use crate::crowded;
 use crate::damage::BYTES;
 
 const STATEMENTS: [&str; 4] = [
@@ -44,18 +46,18 @@ const BOOKS: [&str; 2] = [
 
 /// Parted by blanks; the first is the empty field.
 const VALUES: &str = concat!(
-    " 0 00 01 1 +1 -1 1. .5 0.5 0.9999 0.99999 1.0 1.05 1.25 2 3 4 5 7 8 9 10 15 16 17 54 55 56 98 99 100",
+    " 0 00 01 1 +1 -1 1. .5 0.5 0.9999 0.99999 1.0 1.05 1.25 2 3 4 5 7 8 9 10 15 16 17 47 48 49 54 55 56 98 99 100",
     " 101 299 300 998 999 1000 1899 1900 2007 2008 2009 2010 2011 2012 2013 2014 2198 2199 2200 2201 3000",
     " 3000.0 3000.1 9999.95 10000 10000.0001 99999 100000 100001 999999 1000000 1000000000 1000000001",
-    " 2000000000 2000000001 60000000000 60000000001 120000000000 120000000001 18446744073709551616 B P P1",
-    " P9 D S N G R",
+    " 2000000000 2000000001 3000000000 3000000001 6000000000 6000000001 60000000000 60000000001 120000000000",
+    " 120000000001 18446744073709551616 B P P1 P9 D S N G R",
 );
 
 pub fn cases() -> impl Iterator<Item = Case> {
     let lines =
         STATEMENTS.into_iter().flat_map(|statement| LINES.into_iter().flat_map(move |line| around(statement, line)));
     let feet = STATEMENTS.into_iter().flat_map(variants).map(|statement| Case::foot(statement.into_bytes()));
-    lines.chain(feet).chain(imports()).chain(exports())
+    lines.chain(feet).chain(imports()).chain(exports()).chain(crowded::cases())
 }
 
 fn imports() -> impl Iterator<Item = Case> {

@@ -1,17 +1,21 @@
-//! How many books of each kind came: what the foot adds up, and what an export has rows of.
+//! How many books of each kind came: what the foot adds up, what an export has rows of, and areas of many sub-areas.
 
+use crate::holdings::MANY_SUBS;
 use carbon_twin::holding::{Area, Holding};
 use carbon_twin::listing::{lines, Account};
-use carbon_twin::ranges::BOOK_BYTES;
-use std::collections::BTreeMap;
+use carbon_twin::ranges::{BOOK_BYTES, MOST_SUBS};
+use carbon_twin::refusal::Refusal;
+use std::collections::{BTreeMap, BTreeSet};
 use std::fmt;
+use std::ops::RangeInclusive;
 
 const OVERSIZED: &str = "oversized";
 
-/// A book, and the holding that it leads to.
+/// A book, the holding that it leads to, and why lines of it are refused.
 pub struct Led<'a> {
     book: &'a [u8],
-    holding: Holding,
+    pub holding: Holding,
+    pub refused: BTreeSet<Refusal>,
 }
 
 pub type Kind = (&'static str, fn(&Led) -> bool);
@@ -35,13 +39,22 @@ pub const EXPORTED: [Kind; 4] = [
     }),
 ];
 
+pub const CROWDED: [Kind; 4] = [
+    ("an area at document 01's limit of sub-areas", |led| led.has_area_of(MANY_SUBS[0]..=MANY_SUBS[0])),
+    ("an area between that and the limit", |led| led.has_area_of(MANY_SUBS[1]..=MANY_SUBS[2])),
+    ("an area at the limit", |led| led.has_area_of(MOST_SUBS..=MOST_SUBS)),
+    ("a sub-area beyond the limit", |led| led.refused.contains(&Refusal::SubsFull)),
+];
+
 impl Led<'_> {
-    fn by(book: &[u8]) -> Led<'_> {
+    pub fn by(book: &[u8]) -> Led<'_> {
         let mut account = Account::default();
-        for line in lines(book) {
-            account.enter(line).ok();
-        }
-        Led { book, holding: account.holding }
+        let refused = lines(book).filter_map(|line| account.enter(line).err()).collect();
+        Led { book, holding: account.holding, refused }
+    }
+
+    fn has_area_of(&self, subs: RangeInclusive<usize>) -> bool {
+        self.holding.areas.iter().any(|area| subs.contains(&area.subs.len()))
     }
 
     fn receivers(&self) -> impl Iterator<Item = &Area> {
@@ -55,13 +68,13 @@ impl Led<'_> {
 
 #[derive(Debug)]
 pub struct Kinds {
-    kinds: &'static [Kind],
+    kinds: Vec<Kind>,
     came: BTreeMap<&'static str, u64>,
 }
 
 impl Kinds {
-    pub fn new(kinds: &'static [Kind]) -> Kinds {
-        Kinds { kinds, came: BTreeMap::new() }
+    pub fn new(kinds: &[Kind]) -> Kinds {
+        Kinds { kinds: kinds.to_vec(), came: BTreeMap::new() }
     }
 
     pub fn count(&mut self, book: &[u8]) {
@@ -70,10 +83,9 @@ impl Kinds {
             return;
         }
         let led = Led::by(book);
-        for (kind, is_such) in self.kinds {
-            if is_such(&led) {
-                self.add(kind);
-            }
+        let such: Vec<Kind> = self.kinds.iter().filter(|(_, is_such)| is_such(&led)).copied().collect();
+        for (kind, _) in such {
+            self.add(kind);
         }
     }
 

@@ -1,34 +1,66 @@
 //! Lines that suit a holding, most of them, with years and numbers at the edges of what is taken.
 
+use crate::holdings::{MANY_SUBS, ONE_TOO_MANY};
 use crate::random::Random;
 use carbon_twin::forest::Forest;
 use carbon_twin::holding::{Area, Holding, Sub};
+use carbon_twin::ranges::MOST_SUBS;
 
 pub const LETTERS: [&str; 7] = ["T", "A", "S", "C", "P", "R", "W"];
 
-/// How often each letter comes.
-pub type Mood = [usize; 7];
+/// How often each letter comes, and how many sub-areas an area is first filled with, where it is; with one too many, the
+/// book goes on trying.
+pub struct Mood {
+    often: [usize; 7],
+    fills: Option<usize>,
+}
 
 pub fn mood(random: &mut Random) -> Mood {
     let mut often = || *random.pick(&[1, 4, 16]);
-    [often(), 2 * often(), 4 * often(), 4 * often(), 4 * often(), 4 * often(), 1]
+    let often = [often(), 2 * often(), 4 * often(), 4 * often(), 4 * often(), 4 * often(), 1];
+    let fills = match random.below(24) {
+        0..=2 => Some(*random.pick(&MANY_SUBS)),
+        3 => Some(ONE_TOO_MANY),
+        _ => None,
+    };
+    Mood { often, fills }
+}
+
+impl Mood {
+    /// How many lines suit it: enough to fill an area, where it does, and to go on.
+    pub fn lines(&self, random: &mut Random) -> usize {
+        let filling = if self.fills.is_some() { 3 * MOST_SUBS } else { 0 };
+        filling + 10 + random.below(200)
+    }
 }
 
 pub fn line(random: &mut Random, mood: &Mood, holding: &Holding) -> Vec<u8> {
-    let mut mood = *mood;
-    if holding.areas.is_empty() {
-        mood[0] *= 8;
-        mood[1] *= 16;
-    }
-    let mut line = match LETTERS[random.weighted(&mood)] {
-        "T" => column_line(random),
-        "A" => open_line(random, holding),
-        letter => area_line(random, letter, holding),
+    let filled = mood.fills.filter(|_| !random.one_in(16)).and_then(|most| below(most, holding));
+    let mut line = match filled {
+        Some(area) => add_line(random, area.number, area),
+        None => any_line(random, mood.often, holding),
     };
     if random.one_in(2) {
         line.push('\n');
     }
     line.into_bytes()
+}
+
+/// The first area that takes sub-areas and has fewer than so many.
+fn below(most: usize, holding: &Holding) -> Option<&Area> {
+    holding.areas.iter().find(|area| !area.withdrawn && area.returns == 0 && area.subs.len() < most)
+}
+
+fn any_line(random: &mut Random, mut often: [usize; 7], holding: &Holding) -> String {
+    if holding.areas.is_empty() {
+        often[0] *= 8;
+        often[1] *= 16;
+    }
+    match LETTERS[random.weighted(&often)] {
+        "T" => column_line(random),
+        "A" => open_line(random, holding),
+        letter => area_line(random, letter, holding),
+    }
 }
 
 fn column_line(random: &mut Random) -> String {

@@ -10,10 +10,12 @@
 mod books;
 mod case;
 mod cases;
+mod crowded;
 mod damage;
 mod edges;
 mod holdings;
 mod kinds;
+mod limits;
 mod lines;
 mod options;
 mod random;
@@ -59,7 +61,8 @@ fn compare_calls(options: &Options) -> ExitCode {
         }
     };
     let started = Instant::now();
-    match compare(calls, TWIN, options.calls, options.seed) {
+    let cases = edges::cases().chain(seeded(options.calls, options.seed));
+    match compare(calls, TWIN, cases) {
         Err(problem) => failed(&problem),
         Ok(tally) if options.calls >= ENOUGH_FOR_EVERY_ANSWER && !tally.missing().is_empty() => {
             failed(&format!("{tally}\nnever met: {}", tally.missing().join(", ")))
@@ -88,19 +91,29 @@ fn failed(problem: &str) -> ExitCode {
     ExitCode::FAILURE
 }
 
-/// Counts the answers where all are alike; else says where the two part, on the smallest case found. The edges come
-/// first, then so many calls of the seed.
-fn compare(one: Calls, other: Calls, calls: u64, seed: u64) -> Result<Tally, String> {
-    let mut seeded = Cases::new(seed);
-    let seeded = (0..calls).map(|_| seeded.next());
+/// So many cases of the seed.
+fn seeded(calls: u64, seed: u64) -> impl Iterator<Item = Case> {
+    let mut cases = Cases::new(seed);
+    (0..calls).map(move |_| cases.next())
+}
+
+/// Counts the answers where all are alike; else says where the two part, on the smallest case found.
+fn compare(one: Calls, other: Calls, cases: impl Iterator<Item = Case>) -> Result<Tally, String> {
+    tallied(one, other, cases).map_err(|case| {
+        let smallest = shrink::shrink(case, &|case| differ(&case.run(one), &case.run(other)));
+        describe(&smallest, one, other)
+    })
+}
+
+/// Counts the answers where all are alike; else gives the first case where the two part.
+fn tallied(one: Calls, other: Calls, cases: impl Iterator<Item = Case>) -> Result<Tally, Case> {
     let mut tally = Tally::default();
-    for case in edges::cases().chain(seeded) {
+    for case in cases {
         let outcome = case.run(one);
         if differ(&outcome, &case.run(other)) {
-            let smallest = shrink::shrink(case, &|case| differ(&case.run(one), &case.run(other)));
-            return Err(describe(&smallest, one, other));
+            return Err(case);
         }
-        tally.count(&case, outcome.answer);
+        tally.count(&case, &outcome);
     }
     Ok(tally)
 }

@@ -23,10 +23,13 @@ pub fn sheet(random: &mut Random, holding: &Holding) -> Vec<u8> {
     sheet
 }
 
-/// Rows that the holding takes one after the other, and now and then one that it does not.
+/// Rows that the holding takes one after the other, and now and then one that it does not: seldom where there are so many
+/// that they fill an area.
 fn add_rows(random: &mut Random, holding: &Holding, rows: &mut Rows) {
     let mut after = holding.clone();
-    let tries = *random.pick(&[0, 1, 1, 2, 3, 6, 2 * MOST_SUBS]);
+    let fills = random.one_in(12);
+    let tries = if fills { 3 * MOST_SUBS } else { *random.pick(&[0, 1, 1, 2, 3, 6]) };
+    let seldom = if fills { 2 * MOST_SUBS } else { 8 };
     let roams = random.one_in(2);
     let mut number = area_number(random, holding);
     for _ in 0..tries {
@@ -35,7 +38,7 @@ fn add_rows(random: &mut Random, holding: &Holding, rows: &mut Rows) {
         }
         let line = add_line_to(random, number, &after);
         let taken = parse(line.as_bytes()).and_then(|entry| after.apply(&entry, &Table::default()));
-        if taken.is_ok() || random.one_in(8) {
+        if taken.is_ok() || random.one_in(seldom) {
             rows.push(line.as_bytes().split(|&byte| byte == b',').skip(1).map(<[u8]>::to_vec).collect());
         }
     }

@@ -51,11 +51,12 @@ impl Shrinking<'_> {
             return false;
         }
         self.bytes_left = self.bytes_left.saturating_sub(smaller.statement.len() + smaller.given.len());
-        let mut rooms = vec![smaller.room];
-        if smaller.room != smaller.full_room() {
+        let rooms = if self.smallest.has_full_room() {
+            vec![smaller.full_room()]
+        } else {
             let need = smaller.need();
-            rooms.extend([need, need.saturating_sub(1), need + 1]);
-        }
+            vec![smaller.room, need, need.saturating_sub(1), need + 1]
+        };
         for room in rooms {
             let candidate = Case { room, ..smaller.clone() };
             if (self.fails)(&candidate) {

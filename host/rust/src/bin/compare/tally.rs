@@ -1,6 +1,7 @@
-//! How often each answer came.
+//! How often each answer came, and each limit of an area.
 
-use crate::case::{Asked, Case};
+use crate::case::{Asked, Case, Outcome};
+use crate::limits::{self, Limit};
 use std::collections::BTreeMap;
 use std::fmt;
 
@@ -19,12 +20,16 @@ pub struct Tally {
     letters: BTreeMap<char, u64>,
     taken: BTreeMap<Asked, u64>,
     refused: BTreeMap<(Asked, i64), u64>,
+    limits: BTreeMap<(Asked, Limit), u64>,
 }
 
 impl Tally {
-    pub fn count(&mut self, case: &Case, answer: i64) {
-        if answer < 0 {
-            *self.refused.entry((case.asked, -answer)).or_default() += 1;
+    pub fn count(&mut self, case: &Case, outcome: &Outcome) {
+        for limit in limits::met(case, outcome) {
+            *self.limits.entry((case.asked, limit)).or_default() += 1;
+        }
+        if outcome.answer < 0 {
+            *self.refused.entry((case.asked, -outcome.answer)).or_default() += 1;
             return;
         }
         *self.taken.entry(case.asked).or_default() += 1;
@@ -37,7 +42,7 @@ impl Tally {
         self.taken.values().chain(self.refused.values()).sum()
     }
 
-    /// The letters and numbers of a line that never came, and what never came of the other calls.
+    /// The letters, numbers and limits of a line that never came, and what never came of the other calls.
     pub fn missing(&self) -> Vec<String> {
         let letters = TAKEN.iter().filter(|letter| !self.letters.contains_key(letter)).map(char::to_string);
         let taken = ASKED.iter().filter(|(asked, ..)| !self.taken.contains_key(asked));
@@ -46,7 +51,18 @@ impl Tally {
             let missing = numbers.iter().filter(|&&number| !self.refused.contains_key(&(*asked, number)));
             missing.map(move |number| format!("{name} {number}"))
         });
-        letters.chain(taken).chain(numbers).collect()
+        let limits = ASKED.iter().flat_map(|&(asked, name, _)| {
+            let missing =
+                limits::wanted(asked).into_iter().filter(move |&limit| !self.limits.contains_key(&(asked, limit)));
+            missing.map(move |limit| format!("{name} {limit}"))
+        });
+        letters.chain(taken).chain(numbers).chain(limits).collect()
+    }
+
+    fn limits(&self, asked: Asked) -> String {
+        let limits = self.limits.iter().filter(|((of, _), _)| *of == asked);
+        let limits: Vec<String> = limits.map(|((_, limit), count)| format!("{limit}: {count}")).collect();
+        limits.join(", ")
     }
 
     fn refused(&self, asked: Asked) -> String {
@@ -63,6 +79,7 @@ impl fmt::Display for Tally {
         for (asked, name, _) in ASKED {
             let taken = self.taken.get(&asked).copied().unwrap_or_default();
             write!(f, "\n{name}: taken {taken}; refused {}", self.refused(asked))?;
+            write!(f, "\n{name}, areas of {}", self.limits(asked))?;
         }
         Ok(())
     }

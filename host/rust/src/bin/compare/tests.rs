@@ -1,11 +1,11 @@
 //! That the comparison finds faults, and shrinks them.
 
-use crate::compare;
-use crate::kinds::{Kind, Kinds, EXPORTED, LISTED};
+use crate::kinds::{Kind, Kinds, CROWDED, EXPORTED, LISTED};
 use crate::random::Random;
 use crate::tally::Tally;
+use crate::{compare, edges, seeded, tallied};
 use carbon_twin::call::{twin, twin_foot, CallOfOne, CallOfThree, Calls, TWIN};
-use carbon_twin::ranges::BOOK_BYTES;
+use carbon_twin::ranges::{BOOK_BYTES, MOST_SUBS};
 use carbon_twin::statement;
 
 fn refuses_exact_room(statement: &[u8], table: &[u8], line: &[u8], out: &mut [u8]) -> i64 {
@@ -61,8 +61,13 @@ fn every_fault_is_found_and_shrunk() {
     }
 }
 
+/// By the seeded cases alone.
+pub fn is_found(fault: Calls) -> bool {
+    tallied(fault, TWIN, seeded(20_000, 7)).is_err()
+}
+
 pub fn assert_found_and_shrunk(name: &str, fault: Calls) {
-    let Err(said) = compare(fault, TWIN, 20_000, 7) else {
+    let Err(said) = compare(fault, TWIN, edges::cases().chain(seeded(20_000, 7))) else {
         panic!("the fault '{name}' is not found");
     };
     let given = said
@@ -125,7 +130,7 @@ fn every_fault_of_a_foot_is_found_and_shrunk() {
     }
 }
 
-/// The edges have two areas at most, and no foot of so many digits.
+/// The edges have no foot of so many digits.
 fn foot_of_44_bytes_is_refused(statement: &[u8], out: &mut [u8]) -> i64 {
     match twin_foot(statement, out) {
         44 => -11,
@@ -135,7 +140,7 @@ fn foot_of_44_bytes_is_refused(statement: &[u8], out: &mut [u8]) -> i64 {
 
 #[test]
 fn the_longest_foot_is_tried() {
-    assert!(compare(Calls { foot: foot_of_44_bytes_is_refused, ..TWIN }, TWIN, 20_000, 7).is_err());
+    assert!(is_found(Calls { foot: foot_of_44_bytes_is_refused, ..TWIN }));
 }
 
 #[test]
@@ -144,6 +149,12 @@ fn outcomes_that_never_came_are_named() {
     for outcome in ["T", "line 33", "foot taken", "foot 8", "foot 11", "import taken", "import 42", "export 1"] {
         assert!(nothing.contains(&outcome.to_string()), "{outcome}");
     }
+    for limit in
+        ["line 16 sub-areas", "line most received", "foot 49 sub-areas", "import 48 sub-areas", "export 17 sub-areas"]
+    {
+        assert!(nothing.contains(&limit.to_string()), "{limit}");
+    }
+    assert!(!nothing.contains(&"export most received".to_string()));
 }
 
 /// How many kinds are missing before the first book, and after each.
@@ -179,27 +190,55 @@ fn books_are_told_apart_by_what_their_foot_adds_up() {
     assert_eq!(missing_after_each(&LISTED, &books), [5, 4, 3, 2, 1, 0]);
 }
 
-/// The seeded cases alone find what the edges never meet.
-fn refuses_sixteen_subs_early(statement: &[u8], table: &[u8], line: &[u8], out: &mut [u8]) -> i64 {
-    if line.starts_with(b"S")
-        && statement.starts_with(b"H,1\n")
-        && statement.windows(3).filter(|w| w == b"\nS,").count() == 15
-    {
+#[test]
+fn books_are_told_apart_by_the_sub_areas_of_an_area() {
+    let book = |subs: usize| -> String {
+        let lines: String = (1..=subs).map(|sub| format!("S,7,{sub},1,B,0\n")).collect();
+        format!("A,7,2008\n{lines}")
+    };
+    let books = [15, 16, 17, 47, 48, 49].map(book);
+    assert_eq!(missing_after_each(&CROWDED, &books), [5, 5, 4, 3, 3, 2, 1]);
+    assert_eq!(missing_after_each(&CROWDED, &[book(47)]), [5, 4]);
+}
+
+fn full_before_the_last(statement: &[u8], table: &[u8], line: &[u8], out: &mut [u8]) -> i64 {
+    let subs = statement.windows(3).filter(|window| window == b"\nS,").count();
+    if line.starts_with(b"S") && statement.starts_with(b"H,1\n") && subs == MOST_SUBS - 1 {
         return -26;
     }
     twin(statement, table, line, out)
 }
 
 #[test]
-fn the_sixteenth_sub_is_tried() {
-    assert!(compare(Calls { line: refuses_sixteen_subs_early, ..TWIN }, TWIN, 20_000, 7).is_err());
+fn the_last_sub_is_tried() {
+    assert!(is_found(Calls { line: full_before_the_last, ..TWIN }));
+}
+
+/// Without the edges: areas of each count of sub-areas, and the most units received, by every call. Only statements that
+/// are beyond a limit by one are left to the edges.
+#[test]
+fn seeded_cases_come_to_the_limits() {
+    let missing = tallied(TWIN, TWIN, seeded(60_000, 7)).expect("alike").missing();
+    let is_limit = |name: &&String| name.ends_with("sub-areas") || name.ends_with("received");
+    let is_left = |name: &&String| ["line", "foot", "import"].iter().any(|call| name.starts_with(call));
+    let beyond = |name: &&String| name.ends_with("49 sub-areas") || name.ends_with("one more received");
+    let limits: Vec<&String> =
+        missing.iter().filter(is_limit).filter(|name| !(is_left(name) && beyond(name))).collect();
+    assert!(limits.is_empty(), "{limits:?}");
+}
+
+#[test]
+fn full_room_is_enough() {
+    for case in edges::cases().chain(seeded(10_000, 7)).filter(|case| case.has_full_room()) {
+        assert_ne!(case.run(TWIN).answer, -8, "{case}");
+    }
 }
 
 #[test]
 fn the_twin_is_like_itself_and_a_seed_repeats() {
-    let said: Vec<String> = (0..2).map(|_| compare(TWIN, TWIN, 5_000, 3).expect("alike").to_string()).collect();
-    assert_eq!(said[0], said[1]);
-    assert_ne!(said[0], compare(TWIN, TWIN, 5_000, 4).expect("alike").to_string());
+    let said = |seed: u64| tallied(TWIN, TWIN, seeded(5_000, seed)).expect("alike").to_string();
+    assert_eq!(said(3), said(3));
+    assert_ne!(said(3), said(4));
 }
 
 #[test]

@@ -1,0 +1,2 @@
+pub mod Wider
+pub use Wider.{Narrower, areaInPlaces, holdingInPlaces, NoneAbove, WrittenAsBefore, StillRead}

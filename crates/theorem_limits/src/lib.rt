@@ -1,0 +1,1 @@
+// Limits that are widened, and what stays. No code.
