@@ -1,12 +1,11 @@
 -- How a statement is read: field by field, each at the place after the one before; a number as far as its place in the holding has room,
 -- its range judged afterwards. What is accepted so is a carried holding's bytes and no other: `accepts-just-when` (theorem_round_trips).
-use Rattle.laws.specs.{ℕ, zero, suc, _+_, List, eqb, set, replicate, code}
+use Rattle.laws.specs.{ℕ, zero, suc, _+_, List, [], eqb, set, replicate, code}
 use Rattle.text.specs.{comma, lineEnd}
-use Rattle.holding.specs.{Sub, Area, mostAreas, mostSubs, emptySub, openedWith}
+use Rattle.holding.specs.{Sub, Area, mostAreas, mostSubs, emptySub, openedWith, withSubs}
 use Rattle.statement_cursor.specs.{numberAt, typeAt, startAt, lineAt}
 use Rattle.statement_parse.specs.declared.ResidueRead.{ResidueRead}
 use Rattle.statement_parse.specs.declared.SubRead.{SubRead}
-use Rattle.statement_parse.specs.declared.SubsRead.{SubsRead}
 use Rattle.statement_parse.specs.declared.YearsRead.{YearsRead}
 use Rattle.statement_parse.specs.declared.AmountsRead.{AmountsRead}
 use Rattle.statement_parse.specs.declared.AreaRead.{AreaRead}
@@ -54,8 +53,8 @@ unfoldable pub subsFrom : List ℕ → ℕ → ℕ → List Sub → ℕ → List
 subsFrom s = itemsFrom (λ at. subLineAt s at .sub) (λ at. subLineAt s at .next)
 
 -- into so many places
-unfoldable pub subsWithin : ℕ → List ℕ → ℕ → ℕ → SubsRead
-subsWithin places s at count = let read = subsFrom s count 0 (replicate places emptySub) at in record { subs = read .0; next = read .1 }
+unfoldable pub subsWithin : ℕ → List ℕ → ℕ → ℕ → List Sub × ℕ
+subsWithin places s at count = subsFrom s count 0 (replicate places emptySub) at
 
 unfoldable pub yearsAt : List ℕ → ℕ → YearsRead
 yearsAt s at =
@@ -81,6 +80,22 @@ amountsAt s at =
       next = surrendered .next;
     }
 
+-- an area by the fields of its line, with no sub-area yet
+abbrev pub areaBegun : YearsRead → AmountsRead → Area
+areaBegun years amounts = record {
+  number = years .number;
+  opening = years .opening;
+  «open_year» = years .«open_year»;
+  latest = years .latest;
+  withdrawn = amounts .withdrawn;
+  returns = amounts .returns;
+  stock = amounts .stock;
+  received = amounts .received;
+  surrendered = amounts .surrendered;
+  count = 0;
+  subs = [];
+}
+
 -- an area of at most so many sub-areas
 unfoldable pub areaLineWithin : ℕ → List ℕ → ℕ → AreaRead
 areaLineWithin most s at =
@@ -88,22 +103,7 @@ areaLineWithin most s at =
     let amounts = amountsAt s (years .next) in
     let count = numberAt s (amounts .next) lineEnd most in
     let subs = subsWithin most s (count .next) (count .value) in
-    record {
-      area = record {
-        number = years .number;
-        opening = years .opening;
-        «open_year» = years .«open_year»;
-        latest = years .latest;
-        withdrawn = amounts .withdrawn;
-        returns = amounts .returns;
-        stock = amounts .stock;
-        received = amounts .received;
-        surrendered = amounts .surrendered;
-        count = count .value;
-        subs = subs .subs;
-      };
-      next = subs .next;
-    }
+    record { area = withSubs (count .value) (subs .0) (areaBegun years amounts); next = subs .1 }
 
 unfoldable pub areasFromWithin : ℕ → List ℕ → ℕ → ℕ → List Area → ℕ → List Area × ℕ
 areasFromWithin most s = itemsFrom (λ at. areaLineWithin most s at .area) (λ at. areaLineWithin most s at .next)
@@ -119,9 +119,6 @@ holdingWithin most s =
     record { holding = record { count = count .value; areas = areas .areas }; next = areas .next }
 
 -- ---- under the limit in force
-
-abbrev pub subsAt : List ℕ → ℕ → ℕ → SubsRead
-subsAt = subsWithin mostSubs
 
 abbrev pub areaLineAt : List ℕ → ℕ → AreaRead
 areaLineAt = areaLineWithin mostSubs

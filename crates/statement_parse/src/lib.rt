@@ -2,7 +2,7 @@
 ghost use Prim.Native.Nat.{_≤_};
 ghost use mathlib.Core.Path.{_≡_};
 ghost use Rattle.holding.specs.{mostAreas, mostSubs};
-ghost use Rattle.statement_parse.specs.{residueAt, subLineAt, subsAt, yearsAt, amountsAt, areaLineAt, areasAt, holdingAt};
+ghost use Rattle.statement_parse.specs.{residueAt, subLineAt, yearsAt, amountsAt, areaLineAt, areasAt, holdingAt};
 use holding::Area;
 use holding::Holding;
 use holding::MOST_AREAS;
@@ -37,11 +37,6 @@ pub struct SubRead {
 }
 
 // The sub-areas of an area, as the definitions have them.
-pub struct SubsRead {
-    pub subs: [Sub; MOST_SUBS],
-    pub next: usize,
-}
-
 pub struct YearsRead {
     pub number: u16,
     pub opening: u16,

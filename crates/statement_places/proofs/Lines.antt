@@ -53,8 +53,8 @@ module _ (s : List ℕ) (at : ℕ) where
       let field = numberAt s at 44 1 in
       subst (λ (v : ℕ). There s at (numberText v 44) (field .next)) (flag-back (field .value) (number-small s at 44 1)) (number-there s at 44 1 h)
 
-  subs-there : (most count : ℕ) → count ≤ most → 0 < subsWithin most s at count .next
-      → There s at (texts subText (take count (subsWithin most s at count .subs))) (subsWithin most s at count .next)
+  subs-there : (most count : ℕ) → count ≤ most → 0 < subsWithin most s at count .1
+      → There s at (texts subText (take count (subsWithin most s at count .0))) (subsWithin most s at count .1)
   unfolding subsWithin subsFrom
   subs-there most count room h = filled-there (λ p. subLineAt s p .sub) (λ p. subLineAt s p .next) s subText (sub-there s) emptySub most count at room h
 

@@ -1,3 +1,3 @@
 pub mod Reached
-pub use Reached.{Tidy, TidyAreaIn, TidyHoldingIn, KeptWithin, TidyArea, TidyHolding, Kept}
+pub use Reached.{Tidy, TidyAreaIn, TidyHoldingIn, KeptWithin, TidyArea, Kept}
 unfoldable pub use Reached.{Each}

@@ -31,8 +31,5 @@ pub record KeptWithin (most : Limits) (holding : Holding) : Type 0 where
 abbrev pub TidyArea : Area → Type 0
 TidyArea = TidyAreaIn mostSubs
 
-abbrev pub TidyHolding : Holding → Type 0
-TidyHolding = TidyHoldingIn mostSubs
-
 abbrev pub Kept : Holding → Type 0
 Kept = KeptWithin limits

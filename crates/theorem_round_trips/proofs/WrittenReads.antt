@@ -3,7 +3,7 @@ use Rattle.laws.proofs.{ℕ, _+_, _≤_, _<_, _≡_, refl, ap, Bool, true, fals
 use Rattle.holding.specs.{Residue, Sub, Area, Holding, mostAreas, mostSubs, areasOf, subsOf, emptySub, emptyArea}
 use Rattle.statement_format.specs.{startText, numberText, typeText, texts, flag, residueText, subText, yearsText, amountsText, areaText, statementOf}
 use Rattle.statement_format.proofs.Residues.{subPieces, sub-text}
-use Rattle.statement_parse.specs.{SubRead, AmountsRead, AreaRead, most8, most16, most32, mostRead, residueAt, subLineAt, subsFrom, subsAt, subsWithin, yearsAt, amountsAt, areaLineAt, areaLineWithin, areasFromWithin, areasAt, areasWithin, holdingAt, holdingWithin}
+use Rattle.statement_parse.specs.{SubRead, AmountsRead, AreaRead, most8, most16, most32, mostRead, residueAt, subLineAt, subsFrom, subsWithin, yearsAt, amountsAt, areaLineAt, areaLineWithin, areasFromWithin, areasAt, areasWithin, holdingAt, holdingWithin}
 use Rattle.theorem_keeping.specs.{Kept}
 use Rattle.theorem_keeping.proofs.Register.{Register}
 use Rattle.theorem_keeping.proofs.Areas.{areaNumber, subNumber}
@@ -45,13 +45,12 @@ module _ (s : List ℕ) (at last : ℕ) where
       simp (e0, e1, e2, e3, e4, e5) (ap (λ (p : ℕ). record { sub = sub; next = p }) (piece-last (piece-rest p5)))
 
 subs-here : (s : List ℕ) (at last count : ℕ) (subs : List Sub) → Register subNumber emptySub SubFits mostSubs count subs → 0 < at
-    → Stands s at (texts subText (take count subs)) last → subsAt s at count ≡ record { subs = subs; next = last }
+    → Stands s at (texts subText (take count subs)) last → subsWithin mostSubs s at count ≡ (subs, last)
 unfolding subsWithin subsFrom
 subs-here s at last count subs register started stands =
-    ap (λ (read : List Sub × ℕ). record { subs = read .0; next = read .1 })
-    (register-here (λ p. subLineAt s p .sub) (λ p. subLineAt s p .next) s subText SubFits
+    register-here (λ p. subLineAt s p .sub) (λ p. subLineAt s p .next) s subText SubFits
     (λ p q sub fits h st. let e = sub-here s p q sub fits h st in (ap (λ (r : SubRead). r .sub) e, ap (λ (r : SubRead). r .next) e))
-    subNumber emptySub mostSubs count subs register at last started stands)
+    subNumber emptySub mostSubs count subs register at last started stands
 
 flag-read : (b : Bool) → eqb (flag b) 1 ≡ b
 flag-read true = refl

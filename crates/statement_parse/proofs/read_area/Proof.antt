@@ -1,8 +1,8 @@
 -- `statement_parse::read_area` meets its contract: each part is read at the place after the one before, as in the definition. The loop's invariant: the
 -- sub-areas left to read give, from here on, what all of them give from the start, and nothing else of the area changes.
-use Rattle.laws.proofs.{ℕ, _-_, _≤_, _≡_, refl, ap, _∙_, List, [], arith, length, replicate, set, length-set, needs}
+use Rattle.laws.proofs.{ℕ, _-_, _≤_, _≡_, refl, ap, _∙_, List, arith, length, replicate, set, length-set, needs}
 use Rattle.holding.specs.{Sub, Area, mostSubs, emptySub, withSubs}
-use Rattle.statement_parse.specs.{SubRead, YearsRead, AmountsRead, AreaRead, subsFrom, subsWithin, areaLineWithin}
+use Rattle.statement_parse.specs.{SubRead, AreaRead, areaBegun, subsFrom, subsWithin, areaLineWithin}
 use Rattle.statement_parse.proofs.Items.{items-more, items-done}
 use Rattle.statement_parse.proofs.read_area.Tie as tie
 
@@ -20,22 +20,6 @@ loop-holds c =
     let all : count - 0 ≡ count = omega arith in
     (omega arith, refl, refl, simp (c .empty-sub .ensures, all))
 
--- an area with no sub-area read yet
-abbrev begunOf : YearsRead → AmountsRead → Area
-begunOf years amounts = record {
-  number = years .number;
-  opening = years .opening;
-  «open_year» = years .«open_year»;
-  latest = years .latest;
-  withdrawn = amounts .withdrawn;
-  returns = amounts .returns;
-  stock = amounts .stock;
-  received = amounts .received;
-  surrendered = amounts .surrendered;
-  count = 0;
-  subs = [];
-}
-
 set-subs : (area begun : Area) (subs other : List Sub) (n : ℕ) → area ≡ withSubs n subs begun → withSubs (area .count) other area ≡ withSubs n other begun
 set-subs area begun subs other n e = ap (λ (a : Area). withSubs (a .count) other a) e
 
@@ -47,7 +31,7 @@ loop-again c =
     let read = c .before .read-sub .ensures in (
       omega arith,
       simp length-set (l .inv .1),
-      set-subs (l .area) (begunOf (amounts .before .read-years .result) (amounts .read-amounts .result)) _ (set (l .area .subs) (l .i) (c .before .read-sub .result .sub)) _ (l .inv .2),
+      set-subs (l .area) (areaBegun (amounts .before .read-years .result) (amounts .read-amounts .result)) _ (set (l .area .subs) (l .i) (c .before .read-sub .result .sub)) _ (l .inv .2),
       items-more _ _ _ (l .i) (l .area .subs) (l .next) _ _ (c .before .before .loop-test .taken)
           (ap (λ (x : SubRead). x .sub) read) (ap (λ (x : SubRead). x .next) read)
           ∙ l .inv .3,
@@ -65,7 +49,7 @@ returns c =
     let l = c .before .loop in
     let counted = c .before .before .before .before in
     let amounts = counted .before in
-    read-all (begunOf (amounts .before .read-years .result) (amounts .read-amounts .result)) (l .area) _ (l .next) _ (l .inv .2) (items-done _ _ _ (l .i) (l .area .subs) (l .next) (c .loop-test .left) ∙ l .inv .3)
+    read-all (areaBegun (amounts .before .read-years .result) (amounts .read-amounts .result)) (l .area) _ (l .next) _ (l .inv .2) (items-done _ _ _ (l .i) (l .area .subs) (l .next) (c .loop-test .left) ∙ l .inv .3)
     ∙ simp (
       counted .number .ensures .0,
       amounts .read-amounts .ensures,

@@ -1,5 +1,6 @@
 -- `statement_pass::pass` meets its contract: the first line is read, the areas are passed over, and the statement is taken or not.
 use Rattle.laws.proofs.{_≡_, refl, ap, _∙_, needs}
+use Rattle.holding.specs.{mostAreas}
 use Rattle.statement_cursor.specs.{numberAt}
 use Rattle.statement_places.specs.{headAt}
 use Rattle.statement_pass.proofs.Passing.{pass-clear, pass-turned}
@@ -9,7 +10,7 @@ use Rattle.statement_pass.proofs.pass.Tie as tie
 -- the first line
 head-is : (c : tie.After-number) → c .number .result ≡ headAt (c .before .before .before .args .s .now)
 unfolding headAt
-head-is c = c .number .ensures .0 ∙ ap (λ p. numberAt (c .before .before .before .args .s .now) p 10 16) (c .before .start .ensures)
+head-is c = c .number .ensures .0 ∙ ap (λ p. numberAt (c .before .before .before .args .s .now) p 10 mostAreas) (c .before .start .ensures)
 
 returns : tie.Need-returns
 returns c =

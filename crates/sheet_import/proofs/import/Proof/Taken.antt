@@ -79,7 +79,7 @@ abbrev pub startOf : AtRead → tie.Start Inv-loop μ-loop Inv-loop2 μ-loop2 In
 startOf l = headOf l .before .before .before .before .before .before
 
 pub head-is : (l : AtRead) → headOf l .number .result ≡ numberAt (startOf l .args .statement .now) (startAt (startOf l .args .statement .now) 0 72) 10 mostAreas
-head-is l = headOf l .number .ensures .0 ∙ ap (λ p. numberAt (startOf l .args .statement .now) p 10 16) (headOf l .before .start .ensures)
+head-is l = headOf l .number .ensures .0 ∙ ap (λ p. numberAt (startOf l .args .statement .now) p 10 mostAreas) (headOf l .before .start .ensures)
 
 pub few : (l : AtRead) → headOf l .number .result .value ≤ mostAreas
 few l = omega (arith, headOf l .number .ensures .1)
