@@ -1,4 +1,5 @@
--- A sheet imported onto the holding that a statement carries, and the new statement: "the statement (11) is judged first".
+-- A sheet imported onto the holding that a statement carries, and the new statement: "An operation that takes bytes judges .. its statement (11 ..) before its
+-- own numbers".
 use Rattle.laws.specs.{code, ℕ, _+_, List, _++_}
 use Rattle.refusals.specs.{Verdict, andThen}
 use Rattle.text.specs.{lineEnd}
@@ -6,9 +7,11 @@ use Rattle.statement_format.specs.{startText, numberText, statementOf, startWid
 use Rattle.statement.specs.{readOf}
 use Rattle.sheet_import.specs.Importing.{importOnto}
 
+-- what refuses the statement, and then what refuses the sheet
 unfoldable pub ontoVerdict : List ℕ → List ℕ → List ℕ → Verdict
 ontoVerdict own statement sheet = let read = readOf statement in andThen (read .verdict) (importOnto own (read .holding) sheet .verdict)
 
+-- the new statement
 unfoldable pub ontoBytes : List ℕ → List ℕ → List ℕ → List ℕ
 ontoBytes own statement sheet = statementOf (importOnto own (readOf statement .holding) sheet .holding)
 
