@@ -1,3 +1,3 @@
 pub mod Rates
-pub use Rates.{kindLetter, ownNumber, atPlace, columnOf, firstAge, shares}
+pub use Rates.{kindLetter, ownNumber, atPlace, columnOf, firstAge}
 unfoldable pub use Rates.{consulted, cellAt, rateSix, rateFour, shareAfter}

@@ -1,5 +1,5 @@
 -- The column consulted, the look-up of a cell by age, and the decay of residue. `own` is the participant's table, `default` the cells of Schedule 6 as they are lent.
-use Rattle.laws.specs.{code, ℕ, _-_, min, cond, List, [], eqb, ltb, length, getD, take, drop, _∷_}
+use Rattle.laws.specs.{code, ℕ, _-_, min, cond, List, [], eqb, ltb, length, getD, take, drop}
 use Rattle.units.specs.{Rate}
 use Rattle.forest.specs.{Forest, lettersOf}
 use Rattle.schedules.specs.{Kind, Place, Column, listed, placeFour, placeSix}
@@ -44,10 +44,6 @@ rateSix own default kind forest age = record { 0 = cellAt (consulted own default
 unfoldable pub rateFour : List ℕ → Forest → ℕ → Rate
 rateFour cells forest age = record { 0 = cellAt (atPlace cells (placeFour forest)) age }
 
--- "share is a table of eleven, 10 down to 0, at y − c, and 0 past ten years (002, T2)"
-abbrev pub shares : List ℕ
-shares = 10 ∷ 9 ∷ 8 ∷ 7 ∷ 6 ∷ 5 ∷ 4 ∷ 3 ∷ 2 ∷ 1 ∷ 0 ∷ []
-
--- the tenths of a residue that are left some years after the clearing
+-- the tenths of a residue that are left some years after the clearing: "ten less the years gone, nought past ten" (document 02, item 5)
 unfoldable pub shareAfter : ℕ → ℕ
-shareAfter years = getD shares years 0
+shareAfter years = cond (ltb 10 years) 0 (10 - years)

@@ -8,14 +8,11 @@ use schedules::Place;
 use units::Rate;
 
 // The tenths of a residue that are left, by the years since the clearing.
-const SHARES: [u8; 11] = [10, 9, 8, 7, 6, 5, 4, 3, 2, 1, 0];
-
 pub fn share(years: u16) -> u8
     ensures { λ r. ⌜ r ≡ shareAfter years ⌝ }
 {
-    let i = years as usize;
-    if i < 11 {
-        return SHARES[i];
+    if years <= 10 {
+        return 10 - years as u8;
     }
     0
 }

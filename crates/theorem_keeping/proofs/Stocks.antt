@@ -1,15 +1,13 @@
 -- The bounds of stocks and changes. A rate is at most 30,000 and a share at most 10, so a sub-area of at most 100,000 tenths has trees of at most
 -- 3×10^10 kg and residue of at most that; between two stocks of an area lie at most those of all its sub-areas, in tonnes.
-use Rattle.laws.proofs.{ℕ, _+_, _-_, _*_, _/_, _≤_, Bool, true, false, cond, _≡_, refl, List, arith, leb, ltb, length, length-take}
+use Rattle.laws.proofs.{ℕ, _+_, _-_, _*_, _/_, _≤_, Bool, true, false, cond, _≡_, List, arith, leb, ltb, length, length-take}
 use native.Mathlib.Nat.{mul-le-mul}
-use Rattle.laws.specs.{eachAtMost}
-use Rattle.laws.proofs.Lists.{ceiling-at}
 use Rattle.units.specs.{Kilograms, noKilograms, Change, treesOf, residueOf, tonnes, changeBetween}
 use Rattle.ranges.specs.{mostLand}
 use Rattle.schedules.specs.{cellCeiling, schedule6, Kind}
 use Rattle.table.specs.{isTable}
-use Rattle.rates.specs.{shares, shareAfter}
 use Rattle.rates.proofs.Ceiling.{six-at-most}
+use Rattle.rates.proofs.Decay.{share-at-most}
 use Rattle.holding.specs.{Sub, Area, mostSubs, subsOf}
 use Rattle.statement_carried.specs.{stockForSub}
 use Rattle.step_file.specs.{changeOf}
@@ -23,10 +21,6 @@ use Rattle.theorem_keeping.proofs.Areas.{AreaKept}
 -- a product of three numbers, each with its bound
 product-at-most : (a b c l m n : ℕ) → a ≤ l → b ≤ m → c ≤ n → a * b * c ≤ l * m * n
 product-at-most a b c l m n p q r = mul-le-mul (mul-le-mul p q) r
-
-share-at-most : (years : ℕ) → shareAfter years ≤ 10
-unfolding shareAfter eachAtMost
-share-at-most years = ceiling-at 10 shares refl years
 
 -- none is within every bound
 unless : (t : Bool) (stock : Kilograms) (m : ℕ) → stock .0 ≤ m → cond t noKilograms stock .0 ≤ m

@@ -52,7 +52,7 @@ impl Trees {
     }
 }
 
-/// The share of a residue, in tenths, so many years after the clearing.
+/// The share of a residue, in tenths, so many years after the clearing: ten less the years, nought past ten.
 pub fn share(years: u64) -> u64 {
     10u64.saturating_sub(years)
 }
@@ -96,10 +96,9 @@ mod tests {
 
     #[test]
     fn shares_fall_from_ten_to_nought() {
-        assert_eq!(share(0), 10);
-        assert_eq!(share(4), 6);
-        assert_eq!(share(10), 0);
-        assert_eq!(share(11), 0);
+        let shares: Vec<u64> = (0..=10).map(share).collect();
+        assert_eq!(shares, [10, 9, 8, 7, 6, 5, 4, 3, 2, 1, 0]);
+        assert!((11..=400).all(|years| share(years) == 0));
     }
 
     /// The guide, section 6: radiata of 1996 felled in 2014 and replanted in hardwoods.
