@@ -1,3 +1,3 @@
 pub mod Columns
-pub use Columns.{heldOf, Fronts}
-unfoldable pub use Columns.{columnOutcome, columnNumbers, columnCount}
+pub use Columns.{Fronts}
+unfoldable pub use Columns.{columnNumbers, columnCount}

@@ -3,10 +3,11 @@ use Rattle.laws.specs.{ℕ, _≡_, List}
 use Rattle.refusals.specs.{Refusal}
 use Rattle.line_entry.specs.{Entry, Parsed}
 use Rattle.holding_look.specs.{Looked}
-use Rattle.step_outcome.specs.{Outcome, turnedBack}
+use Rattle.step_outcome.specs.{Outcome, turnedBack, answered}
 use Rattle.step.specs.{acted}
-use Rattle.book_listing.specs.{parsedTable, ifAccepted}
-use Rattle.book_column.specs.{columnOutcome, Fronts}
+use Rattle.table_grow.specs.{growable}
+use Rattle.book_listing.specs.{columnTaken, parsedTable, ifAccepted}
+use Rattle.book_column.specs.{Fronts}
 
 -- why a line is no entry; Form stands where it is one
 abbrev pub refusalIn : Parsed → Refusal
@@ -14,7 +15,7 @@ refusalIn (Parsed.Taken entry) = Refusal.Form
 refusalIn (Parsed.Refused refusal) = refusal
 
 unfoldable pub parsedOutcome : List ℕ → List ℕ → Looked → List ℕ → Parsed → Outcome
-parsedOutcome own default looked line (Parsed.Taken (Entry.Column column)) = columnOutcome own (looked .count) line
+parsedOutcome own default looked line (Parsed.Taken (Entry.Column column)) = answered (growable own (looked .count) line) (columnTaken (looked .count))
 parsedOutcome own default looked line (Parsed.Taken (Entry.On on)) = acted own default looked (on .act)
 parsedOutcome own default looked line (Parsed.Refused refusal) = turnedBack refusal
 

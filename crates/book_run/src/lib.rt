@@ -5,7 +5,8 @@ ghost use lib.ListN.{length, take};
 ghost use Rattle.table.specs.{longestTable};
 ghost use Rattle.book_reached.specs.{mayRunFrom};
 ghost use Rattle.text.specs.{Wrote};
-ghost use Rattle.book_listing.specs.{start, linesRun};
+ghost use Rattle.step_outcome.specs.{answered};
+ghost use Rattle.book_listing.specs.{start, linesRun, columnTaken};
 ghost use Rattle.sheet_write.specs.{sheetText};
 ghost use Rattle.book_export.specs.{exportedFor, exportedFrom};
 ghost use Rattle.book_run.specs.{refusalIn, Turn, RunsIf};
@@ -19,6 +20,7 @@ use line_entry::Parsed;
 use refusals::Refusal;
 use refusals::Verdict;
 use step_outcome::Outcome;
+use step_outcome::Report;
 use table::LONGEST_TABLE;
 
 // Why a line is no entry.
@@ -28,6 +30,24 @@ fn refusal_in(parsed: Parsed) -> Refusal
     match parsed {
         Parsed::Refused(refusal) => refusal,
         Parsed::Taken(_) => Refusal::Form,
+    }
+}
+
+// What a T line comes to, where so many areas stand: none of them changes.
+fn column_outcome(verdict: Verdict, areas: usize) -> Outcome
+    ensures { λ r. ⌜ r ≡ answered verdict (columnTaken areas) ⌝ }
+{
+    let count = match verdict {
+        Verdict::Refused(_) => 0,
+        Verdict::Accepted => areas,
+    };
+    let area = holding::empty_area();
+    Outcome {
+        verdict,
+        report: Report::Nothing,
+        place: Found::Nowhere,
+        count,
+        area,
     }
 }
 
@@ -47,16 +67,13 @@ fn take_line(
     let Parsed::Taken(entry) = parsed else {
         return step_outcome::turned(refusal_in(parsed));
     };
-    match entry {
-        Entry::Column { column: _ } => {
-            book_column::take_column(table, count, looked.count, line)
-        }
-        Entry::On(on) => {
-            let own = &table[..];
-            let act = on.act;
-            step::apply_to(&own[0..*count], default, looked, act)
-        }
-    }
+    let Entry::On(on) = entry else {
+        let verdict = book_column::take_column(table, count, looked.count, line);
+        return column_outcome(verdict, looked.count);
+    };
+    let own = &table[..];
+    let act = on.act;
+    step::apply_to(&own[0..*count], default, looked, act)
 }
 
 // Puts the row of a line, as it was read and by its verdict, where it is an accepted S entry; the answer is the place after what was put.

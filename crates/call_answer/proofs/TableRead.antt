@@ -2,20 +2,11 @@
 use Rattle.laws.proofs.{ℕ, _-_, _≤_, _≡_, refl, sym, ap, _∙_, not, List, [], _∷_, arith, length, take, drop, replicate, length-replicate}
 use lib.Seq.{take-at}
 use Rattle.refusals.specs.{Refusal, Verdict, weighed, weighAll, smallest, Written, written, bufferAfter}
+use Rattle.refusals.proofs.Answers.{was-turned, was-clear}
 use Rattle.table.specs.{longestTable, isTable, judged}
 use Rattle.table_bytes.specs.{numbersOf, decodable}
 use Rattle.table_bytes.proofs.Numbers.{number-count, clear-decodable}
 use Rattle.call_answer.specs.{tableVerdict}
-
-written-refused : (v : Verdict) (numbers : List ℕ) (r : Refusal) → written v numbers ≡ Written.Refused r → v ≡ Verdict.Refused r
-unfolding written
-written-refused Verdict.Accepted numbers r e = cc
-written-refused (Verdict.Refused s) numbers r e = cc
-
-written-count : (v : Verdict) (numbers : List ℕ) (n : ℕ) → written v numbers ≡ Written.Count n → (v ≡ Verdict.Accepted) × (n ≡ length numbers)
-unfolding written
-written-count Verdict.Accepted numbers n e = (refl, cc)
-written-count (Verdict.Refused s) numbers n e = (cc, cc)
 
 -- the numbers lent on
 pub record Lent (table own : List ℕ) : Type 0 where
@@ -43,11 +34,11 @@ module _ (table after : List ℕ) (decoded : Written) (e : decoded ≡ written (
 
   pub table-refused : (r : Refusal) → decoded ≡ Written.Refused r → tableVerdict table ≡ Verdict.Refused r
   unfolding tableVerdict weighed
-  table-refused r q = rw (written-refused (decodable table longestTable) (numbersOf table) r (sym told ∙ q))
+  table-refused r q = rw (was-turned (decodable table longestTable) (numbersOf table) r (sym told ∙ q))
 
   module _ (n : ℕ) (q : decoded ≡ Written.Count n) where
     counted : (decodable table longestTable ≡ Verdict.Accepted) × (n ≡ length (numbersOf table))
-    counted = written-count (decodable table longestTable) (numbersOf table) n (sym told ∙ q)
+    counted = was-clear (decodable table longestTable) (numbersOf table) n (sym told ∙ q)
 
     pub table-few : n ≤ longestTable
     table-few = omega (arith, counted .1, number-count table, clear-decodable table longestTable (counted .0) .1)

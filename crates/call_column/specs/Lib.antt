@@ -1,3 +1,2 @@
 pub mod Cells
-pub use Cells.{verdictIn, countIn}
 unfoldable pub use Cells.{cellsVerdict}

@@ -20,7 +20,7 @@ fn answered(answer: Written) -> i64
 }
 
 // Takes a line by a statement and a table. `out` takes the new statement and then the report of an R or W line, or the longer table of a T line:
-// the answer is how many bytes, at most 11921, or below 0 the number of the refusal, which leaves `out` as it was.
+// the answer is how many bytes, at most 32916, or below 0 the number of the refusal, which leaves `out` as it was.
 #[no_mangle]
 pub extern "C" fn carbon_account_line(
     statement: &[u8],
@@ -46,7 +46,7 @@ pub extern "C" fn carbon_foot(statement: &[u8], out: &mut [u8]) -> i64
     answered(answer)
 }
 
-// Adds the sub-areas of a sheet to the holding of a statement, under a table: `out` takes the new statement. The answer is how many bytes, at most 11861, or
+// Adds the sub-areas of a sheet to the holding of a statement, under a table: `out` takes the new statement. The answer is how many bytes, at most 32853, or
 // below 0 the number of the refusal, which leaves `out` as it was.
 #[no_mangle]
 pub extern "C" fn carbon_import_sheet(

@@ -9,7 +9,7 @@ use line_entry::Act;
 use line_entry::Entry;
 use line_entry::Parsed;
 
-fn say_added(sub: u8, tenths: u32, forest: Forest, planted: u16) {
+fn say_added(sub: u16, tenths: u32, forest: Forest, planted: u16) {
     say_number(b" adds sub ", sub as u64);
     say_tenths(b", ", tenths as u64);
     say_forest(b" ha, ", forest);

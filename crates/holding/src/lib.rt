@@ -18,14 +18,27 @@ pub struct Residue {
     pub year: u16,
 }
 
-// A sub-area, its fields in an order that leaves no room between them.
+// A sub-area, its fields so wide and in such an order that they leave no room between or behind them.
 pub struct Sub {
     pub tenths: Tenths,
     pub planted: u16,
     pub forest: Forest,
     pub residue: Residue,
-    pub number: u8,
+    pub number: u16,
 }
+
+// What a place holds where no sub-area stands.
+pub const EMPTY_SUB: Sub = Sub {
+    tenths: Tenths(0),
+    planted: 0,
+    forest: Forest::Bare,
+    residue: Residue {
+        forest: Forest::Bare,
+        age: 0,
+        year: 0,
+    },
+    number: 0,
+};
 
 // An accounting area. The stock is the last closing stock, or the opening stock before the first return.
 pub struct Area {
@@ -54,27 +67,11 @@ pub enum Found {
     Nowhere,
 }
 
-pub fn empty_sub() -> Sub
-    ensures { λ r. ⌜ r ≡ emptySub ⌝ }
-{
-    Sub {
-        number: 0,
-        tenths: Tenths(0),
-        forest: Forest::Bare,
-        planted: 0,
-        residue: Residue {
-            forest: Forest::Bare,
-            age: 0,
-            year: 0,
-        },
-    }
-}
-
 // The places of an area with no sub-area.
 fn no_subs() -> [Sub; MOST_SUBS]
     ensures { λ r. ⌜ r ≡ replicate mostSubs emptySub ⌝ }
 {
-    [empty_sub(); MOST_SUBS]
+    [EMPTY_SUB; MOST_SUBS]
 }
 
 pub fn empty_area() -> Area
@@ -137,7 +134,7 @@ pub fn find_area(holding: Holding, number: u16) -> Found
 }
 
 // The place of the standing sub-area with the number.
-pub fn find_sub(area: Area, number: u8) -> Found
+pub fn find_sub(area: Area, number: u16) -> Found
     ensures { λ r. ⌜ r ≡ findSub area number ⌝ }
 {
     let n = area.count;

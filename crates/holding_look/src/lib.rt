@@ -74,15 +74,14 @@ fn no_stand() -> Stand
     ensures { λ r. ⌜ r .found ≡ Found.Nowhere ⌝ }
     ensures { λ r. ⌜ r .sub ≡ emptySub ⌝ }
 {
-    let sub = holding::empty_sub();
     Stand {
         found: Found::Nowhere,
-        sub,
+        sub: holding::EMPTY_SUB,
     }
 }
 
 // The standing sub-area with the number, in one search.
-pub fn find_stand(area: Area, number: u8) -> Stand
+pub fn find_stand(area: Area, number: u16) -> Stand
     ensures { λ r. ⌜ r .found ≡ findSub area number ⌝ }
     ensures { λ r. ⌜ r .sub ≡ subAt area (findSub area number) ⌝ }
 {

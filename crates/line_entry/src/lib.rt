@@ -6,10 +6,11 @@ ghost use Rattle.text_field.specs.{part};
 ghost use Rattle.refusals.specs.{weighed};
 ghost use lib.Dec.{eqb};
 ghost use mathlib.Core.Bool.{not, _||_};
-ghost use Rattle.line_entry.specs.{letterIn, badArea, badSub, badYear};
+ghost use Rattle.line_entry.specs.{letterIn, badArea, badSub, badYear, refusedBy};
 use forest::Forest;
 use refusals::Refusal;
 use refusals::Verdict;
+use refusals::Written;
 use refusals::weigh;
 use text_field::Places;
 use text_number::Number;
@@ -21,17 +22,17 @@ pub enum Act {
         opening: u16,
     },
     Add {
-        sub: u8,
+        sub: u16,
         land: Tenths,
         forest: Forest,
         planted: u16,
     },
     Clear {
-        sub: u8,
+        sub: u16,
         year: u16,
     },
     Plant {
-        sub: u8,
+        sub: u16,
         forest: Forest,
         year: u16,
     },
@@ -56,6 +57,16 @@ pub enum Entry {
 pub enum Parsed {
     Taken(Entry),
     Refused(Refusal),
+}
+
+// The answer to a line that is no entry: its refusal.
+pub fn refused_by(parsed: Parsed) -> Written
+    ensures { λ r. ⌜ r ≡ refusedBy parsed ⌝ }
+{
+    match parsed {
+        Parsed::Refused(refusal) => Written::Refused(refusal),
+        Parsed::Taken(_) => Written::Count(0),
+    }
 }
 
 // The letter that a field is, or 0.

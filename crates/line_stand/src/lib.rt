@@ -29,7 +29,7 @@ pub fn clear_entry(line: &[u8]) -> Parsed
         Verdict::Accepted => Parsed::Taken(Entry::On(AreaAct {
             area: text_value::value_u16(area),
             act: Act::Clear {
-                sub: text_value::value_u8(sub),
+                sub: text_value::value_u16(sub),
                 year: text_value::value_u16(year),
             },
         })),
@@ -58,7 +58,7 @@ pub fn plant_entry(line: &[u8]) -> Parsed
         Verdict::Accepted => Parsed::Taken(Entry::On(AreaAct {
             area: text_value::value_u16(area),
             act: Act::Plant {
-                sub: text_value::value_u8(sub),
+                sub: text_value::value_u16(sub),
                 forest: line_type::forest_of(named),
                 year: text_value::value_u16(year),
             },

@@ -43,7 +43,7 @@ pub fn add_entry(line: &[u8]) -> Parsed
         Verdict::Accepted => Parsed::Taken(Entry::On(AreaAct {
             area: text_value::value_u16(area),
             act: Act::Add {
-                sub: text_value::value_u8(sub),
+                sub: text_value::value_u16(sub),
                 land: units::rounded(text_value::value_u32(hectares)),
                 forest: line_type::forest_of(named),
                 planted: text_value::value_u16(planted),

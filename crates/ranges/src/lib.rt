@@ -7,7 +7,7 @@ use units::Tenths;
 
 pub const LAST_AREA: u16 = 999;
 
-pub const LAST_SUB: u8 = 99;
+pub const LAST_SUB: u16 = 99;
 
 pub const FIRST_YEAR: u16 = 2008;
 
@@ -44,7 +44,7 @@ pub fn is_area(number: u16) -> bool
     (1 <= number) & (number <= LAST_AREA)
 }
 
-pub fn is_sub(number: u8) -> bool
+pub fn is_sub(number: u16) -> bool
     ensures { λ r. ⌜ r ≡ isSub number ⌝ }
 {
     (1 <= number) & (number <= LAST_SUB)

@@ -1,5 +1,5 @@
 -- The share of a residue is ten less the years, where a difference stops at nought; so it is the guide's for each number of years, and at most ten.
-use Rattle.laws.proofs.{ℕ, zero, suc, _-_, _≤_, _≡_, refl, sym, _∙_, Bool, true, false, cond, List, [], _∷_, arith, ltb, ltb-true, ltb-false, getD}
+use Rattle.laws.proofs.{ℕ, zero, suc, _-_, _≤_, _≡_, refl, _∙_, Bool, true, false, cond, List, [], _∷_, arith, ltb, ltb-true, getD}
 use Rattle.rates.specs.{shareAfter}
 
 pub ten-less : (years : ℕ) → shareAfter years ≡ 10 - years

@@ -7,17 +7,30 @@ use Rattle.line_entry.specs.{Entry, Parsed}
 use Rattle.line.specs.{entryOf}
 use Rattle.holding.specs.{Area, Holding, Found, numbersIn}
 use Rattle.holding_look.specs.{Looked, areaAt}
-use Rattle.step_outcome.specs.{Outcome, placed}
+use Rattle.step_outcome.specs.{Outcome, turnedBack, placed}
 use Rattle.step.specs.{acted, applied}
 use Rattle.book_listing.specs.{entryTaken, parsedTaken, lineTaken}
 use Rattle.book_find.specs.{Named, namedBy}
 use Rattle.book_find.proofs.Naming.{lookedFor, looked-for, looked-up}
 use Rattle.sheet_read.specs.{Reading, rowsOf, widthFrom}
 use Rattle.sheet_read.proofs.Joined.{firstOf, first-row, rows-none}
-use Rattle.sheet_import.specs.{Imported, rowTaken, importedIf, importRows, lineAt, rowOutcome}
+use Rattle.sheet_import.specs.{Imported, rowTaken, importedIf, importRows, lineAt}
 use Rattle.sheet_import.proofs.Lines.{no-column}
 
 -- ---- what a row comes to
+
+-- by what it was read as; no row is read as a column, and the refusal that stands there has no meaning
+abbrev pub rowOutcome : List ℕ → List ℕ → Looked → Parsed → Outcome
+rowOutcome own default looked (Parsed.Taken (Entry.Column column)) = turnedBack Refusal.Form
+rowOutcome own default looked (Parsed.Taken (Entry.On on)) = acted own default looked (on .act)
+rowOutcome own default looked (Parsed.Refused refusal) = turnedBack refusal
+
+module _ (own default : List ℕ) (looked : Looked) (parsed : Parsed) where
+  pub read-refused : (refusal : Refusal) → parsed ≡ Parsed.Refused refusal → rowOutcome own default looked parsed .verdict ≡ Verdict.Refused refusal
+  read-refused refusal e = ap (λ (x : Parsed). rowOutcome own default looked x .verdict) e
+
+  pub read-column : (column : ℕ) → parsed ≡ Parsed.Taken (Entry.Column column) → rowOutcome own default looked parsed .verdict ≡ Verdict.Refused Refusal.Form
+  read-column column e = ap (λ (x : Parsed). rowOutcome own default looked x .verdict) e
 
 module _ (own : List ℕ) (holding : Holding) (numbers : List ℕ) (n : numbers ≡ numbersIn (holding .areas)) (joined : List ℕ) where
   abbrev line : List ℕ

@@ -6,4 +6,4 @@ pub use Importing.{Imported, rowLine, rowTaken, sheetRows, importedIf}
 unfoldable pub use Importing.{importRows, importOnto}
 unfoldable pub use Onto.{ontoVerdict, ontoBytes}
 pub use Onto.{firstText, firstWidth}
-pub use Taking.{lineAt, ReadsRow, rowOutcome}
+pub use Taking.{lineAt, ReadsRow}

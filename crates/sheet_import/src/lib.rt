@@ -2,7 +2,7 @@
 ghost use mathlib.Core.Path.{_≡_};
 ghost use Rattle.statement_field.specs.{Put};
 ghost use Rattle.call_output.specs.{Gives};
-ghost use Rattle.sheet_import.specs.{ReadsRow, rowOutcome, firstText, firstWidth, ontoVerdict, ontoBytes};
+ghost use Rattle.sheet_import.specs.{ReadsRow, firstText, firstWidth, ontoVerdict, ontoBytes};
 use holding::Found;
 use holding::MOST_AREAS;
 use holding_look::Looked;
@@ -12,7 +12,6 @@ use refusals::Refusal;
 use refusals::Verdict;
 use refusals::Written;
 use statement_parse::AREAS_READ;
-use step_outcome::Outcome;
 
 // Room for the longest line that may be an entry, and for its end.
 const LINE_ROOM: usize = line::LONGEST + 1;
@@ -41,22 +40,6 @@ fn read_row(sheet: &[u8], at: usize) -> RowRead
     RowRead {
         parsed: line::parse(&line[0..end]),
         next: row.next,
-    }
-}
-
-// What a row comes to, as it was read, on the area that was looked up for it. No row is read as a column.
-fn take_row<'a>(own: &'a [u16], default: &'a [u16], looked: Looked, parsed: Parsed) -> Outcome
-    ensures { λ r. ⌜ r ≡ rowOutcome (now (own .entry)) (now (default .entry)) looked parsed ⌝ }
-{
-    match parsed {
-        Parsed::Refused(refusal) => step_outcome::turned(refusal),
-        Parsed::Taken(entry) => match entry {
-            Entry::Column { column: _ } => step_outcome::turned(Refusal::Form),
-            Entry::On(on) => {
-                let act = on.act;
-                step::apply_to(own, default, looked, act)
-            }
-        },
     }
 }
 
@@ -100,7 +83,7 @@ pub fn import(own: &[u16], statement: &[u8], sheet: &[u8], out: &mut [u8]) -> Wr
     }
     let default = schedules::schedule_six();
     let mut unkept = [0u8; 1];
-    let heading = sheet_read::put_joined(sheet, 0, &mut unkept, 0);
+    let heading = read_row(sheet, 0);
     let mut one = holding::empty_area();
     let mut at = heading.next;
     while at < sheet.len() {
@@ -120,7 +103,15 @@ pub fn import(own: &[u16], statement: &[u8], sheet: &[u8], out: &mut [u8]) -> Wr
             found,
             area: one,
         };
-        let outcome = take_row(own, &default, looked, parsed);
+        let Parsed::Taken(entry) = parsed else {
+            return line_entry::refused_by(parsed);
+        };
+        // No row is read as a column.
+        let Entry::On(on) = entry else {
+            return Written::Refused(Refusal::Form);
+        };
+        let act = on.act;
+        let outcome = step::apply_to(own, &default, looked, act);
         let verdict = outcome.verdict;
         if let Verdict::Refused(refusal) = verdict {
             return Written::Refused(refusal);

@@ -57,7 +57,7 @@ pub fn area(area: Area) -> bool
     while i < n {
         let one = area.subs[i];
         kept = kept & sub(area.opening, area.latest, one);
-        borne[i] = one.number as u16;
+        borne[i] = one.number;
         i += 1;
     }
     kept & statement_distinct::numbers(&borne[0..n])

@@ -1,5 +1,5 @@
--- How a statement is read: field by field, each at the place after the one before; a number as far as its place in the holding has room,
--- its range judged afterwards. What is accepted so is a carried holding's bytes and no other: `accepts-just-when` (theorem_round_trips).
+-- How a statement is read: field by field, each at the place after the one before; a number up to so many bits as hold its range,
+-- which is judged afterwards. What is accepted so is a carried holding's bytes and no other: `accepts-just-when` (theorem_round_trips).
 use Rattle.laws.specs.{ℕ, zero, suc, _+_, List, [], eqb, set, replicate, code}
 use Rattle.text.specs.{comma, lineEnd}
 use Rattle.holding.specs.{Sub, Area, mostAreas, mostSubs, emptySub, openedWith, withSubs}

@@ -98,7 +98,7 @@ fn read_sub(s: &[u8], at: usize) -> SubRead
     let residue = cleared.residue;
     SubRead {
         sub: Sub {
-            number: number.value as u8,
+            number: number.value as u16,
             tenths: Tenths(tenths.value as u32),
             forest,
             planted: planted.value as u16,
@@ -165,7 +165,7 @@ pub fn read_area(s: &[u8], at: usize) -> AreaRead
         received: amounts.received,
         surrendered: amounts.surrendered,
         count: n,
-        subs: [holding::empty_sub(); MOST_SUBS],
+        subs: [holding::EMPTY_SUB; MOST_SUBS],
     };
     let mut next = count.next;
     let mut i: usize = 0;

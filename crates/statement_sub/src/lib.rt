@@ -54,7 +54,7 @@ pub fn put_sub(out: &mut [u8], at: usize, sub: Sub) -> usize
     let forest = sub.forest;
     let residue = sub.residue;
     let next = statement_field::put_start(out, at, b'S');
-    let next = statement_field::put_short(out, next, sub.number as u16, b',');
+    let next = statement_field::put_short(out, next, sub.number, b',');
     let next = statement_field::put_field(out, next, tenths.0 as u64, b',');
     let next = put_type(out, next, forest, b',');
     let next = statement_field::put_short(out, next, sub.planted, b',');

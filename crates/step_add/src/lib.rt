@@ -46,10 +46,10 @@ fn added_area<'a>(own: &'a [u16], default: &'a [u16], area: Area, sub: Sub) -> A
     requires { ⌜ (area .count < mostSubs) × (area .stock .0 ≤ stockForSub * mostSubs) ⌝ }
     ensures { λ r. ⌜ r ≡ addedArea (now (own .entry)) (now (default .entry)) area sub ⌝ }
 {
-    let count = area.count;
-    let stock = area.stock;
-    let more = stocks::sub_stock(own, default, sub, area.opening);
     let mut after = area;
+    let count = after.count;
+    let stock = after.stock;
+    let more = stocks::sub_stock(own, default, sub, after.opening);
     after.stock = stock.plus(more);
     after.count = count + 1;
     after.subs[count] = sub;
@@ -79,7 +79,7 @@ pub fn add<'a>(
     own: &'a [u16],
     default: &'a [u16],
     looked: Looked,
-    sub: u8,
+    sub: u16,
     land: Tenths,
     forest: Forest,
     planted: u16,

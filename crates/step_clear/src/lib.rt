@@ -17,7 +17,7 @@ use step_outcome::Outcome;
 use step_outcome::Report;
 
 // By the sub-area as it stands.
-fn verdict(number: u16, sub: u8, year: u16, found: Found, area: Area, stand: Stand) -> Verdict
+fn verdict(number: u16, sub: u16, year: u16, found: Found, area: Area, stand: Stand) -> Verdict
     requires { ⌜ (stand .found ≡ findSub area sub) × (stand .sub ≡ subAt area (findSub area sub)) ⌝ }
     ensures { λ r. ⌜ r ≡ smallest (clearCases number sub year found area) ⌝ }
 {
@@ -55,7 +55,7 @@ fn cleared_sub(sub: Sub, year: u16) -> Sub
     }
 }
 
-pub fn clear(looked: Looked, sub: u8, year: u16) -> Outcome
+pub fn clear(looked: Looked, sub: u16, year: u16) -> Outcome
     ensures { λ r. ⌜ r ≡ cleared looked sub year ⌝ }
 {
     let found = looked.found;

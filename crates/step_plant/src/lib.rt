@@ -18,7 +18,7 @@ use step_outcome::Report;
 // By the sub-area as it stands.
 fn verdict(
     number: u16,
-    sub: u8,
+    sub: u16,
     forest: Forest,
     year: u16,
     found: Found,
@@ -62,7 +62,7 @@ fn planted_sub(sub: Sub, forest: Forest, year: u16) -> Sub
     }
 }
 
-pub fn plant(looked: Looked, sub: u8, forest: Forest, year: u16) -> Outcome
+pub fn plant(looked: Looked, sub: u16, forest: Forest, year: u16) -> Outcome
     ensures { λ r. ⌜ r ≡ planted looked sub forest year ⌝ }
 {
     let found = looked.found;

@@ -1,8 +1,8 @@
--- The longer table as it is stored: the table with the column's length entered, then the column's cells.
+-- The longer table as it is stored: the table that stands with the column's length entered, then the column's cells.
 use Rattle.laws.proofs.{ℕ, _+_, _<_, _≤_, _≡_, sym, ap, _∙_, true, List, _++_, append-assoc, arith, length, set, take, drop, length-set, length-take, length-append, take-append-drop, sets, leb-true, leb-false, ltb-false, not-false}
 use lib.Seq.{set-append-left}
 use Rattle.laws.proofs.Lists.{and-left}
-use Rattle.laws.proofs.Stores.{stored-in-front, stored-behind}
+use Rattle.laws.proofs.Stores.{stored-behind}
 use Rattle.refusals.specs.{weighAll, smallest, Refusal, Verdict}
 use Rattle.refusals.proofs.Laws.{clear-before, clear-last}
 use Rattle.table.specs.{hasColumns}
@@ -20,12 +20,12 @@ module _ (table : List ℕ) (column : ℕ) (cells : List ℕ) (h : column < 10) 
   pub longer-length : length (longer table column cells) ≡ length table + length cells
   longer-length = rw longer-is (simp (length-append, length-set))
 
-  pub longer-stored : (out : List ℕ) → length table + length cells ≤ length out
-      → sets (set (sets out 0 table) column (length cells)) (length table) cells
-      ≡ longer table column cells ++ drop (length (longer table column cells)) out
-  longer-stored out room =
-      rw (longer-length, longer-is, stored-in-front table out (omega arith), set-append-left table (drop (length table) out) column (length cells) (omega arith))
-      (stored-behind (set table column (length cells)) cells out (length table) (length-set table column (length cells)) room)
+  pub longer-stored : (numbers : List ℕ) → length table + length cells ≤ length numbers
+      → sets (set (table ++ drop (length table) numbers) column (length cells)) (length table) cells
+      ≡ longer table column cells ++ drop (length (longer table column cells)) numbers
+  longer-stored numbers room =
+      rw (longer-length, longer-is, set-append-left table (drop (length table) numbers) column (length cells) (omega arith))
+      (stored-behind (set table column (length cells)) cells numbers (length table) (length-set table column (length cells)) room)
 
 -- a table has its ten lengths
 columns-ten : (table : List ℕ) → hasColumns table ≡ true → 10 ≤ length table

@@ -2,7 +2,7 @@
 ghost use mathlib.Core.Path.{_≡_};
 ghost use mathlib.Core.List.{_++_};
 ghost use Prim.Native.Nat.{_+_, _<_, _≤_};
-ghost use lib.ListN.{length, drop};
+ghost use lib.ListN.{length, take, drop};
 ghost use lib.Seq.{sets};
 ghost use Rattle.table_parts.specs.{columnCount};
 ghost use Rattle.table.specs.{longestColumn};
@@ -21,7 +21,8 @@ fn is_free(table: &[u16], column: usize) -> bool
     table::each_at_most(from_column, 0)
 }
 
-fn judge(table: &[u16], column: usize, cells: &[u16], room: usize) -> Verdict
+// What refuses a column on a table that is begun.
+fn judge_begun(table: &[u16], column: usize, cells: &[u16], room: usize) -> Verdict
     ensures { λ r. ⌜ r ≡ extensible (now (table .entry)) column (now (cells .entry)) room ⌝ }
 {
     let whole = table::has_columns(table);
@@ -40,6 +41,18 @@ fn judge(table: &[u16], column: usize, cells: &[u16], room: usize) -> Verdict
     refusals::weigh(v, room < table.len() + cells.len(), Refusal::OutputShort)
 }
 
+// What refuses a column on the table that is the first `count` of the numbers, where there is room for as many as they are.
+pub fn judge(numbers: &[u16], count: usize, column: usize, cells: &[u16]) -> Verdict
+    ensures { λ r. ⌜ r ≡ extensible (begun (take count (now (numbers .entry)))) column (now (cells .entry)) (length (now (numbers .entry))) ⌝ }
+{
+    let own = table_parts::part(numbers, 0, count);
+    if own.len() == 0 {
+        let no_columns = [0u16; table_parts::COLUMNS];
+        return judge_begun(&no_columns, column, cells, numbers.len());
+    }
+    judge_begun(own, column, cells, numbers.len())
+}
+
 fn put_all(numbers: &[u16], out: &mut [u16], at: usize)
     requires { ⌜ at + length (now numbers) ≤ length (now out) ⌝ }
     ensures { λ _. ⌜ now (out .exit) ≡ sets (now (out .entry)) at (now (numbers .entry)) ⌝ }
@@ -51,40 +64,42 @@ fn put_all(numbers: &[u16], out: &mut [u16], at: usize)
     }
 }
 
-// The longer table, at the front of `out`.
-fn put_longer(table: &[u16], column: usize, cells: &[u16], out: &mut [u16])
-    requires { ⌜ (column < columnCount) × (columnCount ≤ length (now table)) ⌝ }
-    requires { ⌜ (length (now cells) ≤ longestColumn) × (length (now table) + length (now cells) ≤ length (now out)) ⌝ }
-    ensures { λ _. ⌜ now (out .exit) ≡ longer (now (table .entry)) column (now (cells .entry)) ++ drop (length (longer (now (table .entry)) column (now (cells .entry)))) (now (out .entry)) ⌝ }
+// Puts ten lengths of 0 to the front where there is no table yet: how many numbers the table has then.
+fn begin(numbers: &mut [u16], count: usize) -> usize
+    requires { ⌜ columnCount ≤ length (now numbers) ⌝ }
+    ensures { λ r. ⌜ r ≡ length (begun (take count (now (numbers .entry)))) ⌝ }
+    ensures { λ _. ⌜ now (numbers .exit) ≡ begun (take count (now (numbers .entry))) ++ drop (length (begun (take count (now (numbers .entry))))) (now (numbers .entry)) ⌝ }
 {
-    put_all(table, out, 0);
-    out[column] = cells.len() as u16;
-    put_all(cells, out, table.len());
+    let many = table_parts::part(numbers, 0, count).len();
+    if many == 0 {
+        let no_columns = [0u16; table_parts::COLUMNS];
+        put_all(&no_columns, numbers, 0);
+        return table_parts::COLUMNS;
+    }
+    many
 }
 
-// A table that is begun, extended.
-fn extend_begun(table: &[u16], column: usize, cells: &[u16], out: &mut [u16]) -> Written
-    ensures { λ r. ⌜ r ≡ written (extensible (now (table .entry)) column (now (cells .entry)) (length (now (out .entry)))) (longer (now (table .entry)) column (now (cells .entry))) ⌝ }
-    ensures { λ _. ⌜ now (out .exit) ≡ bufferAfter (extensible (now (table .entry)) column (now (cells .entry)) (length (now (out .entry)))) (longer (now (table .entry)) column (now (cells .entry))) (now (out .entry)) ⌝ }
+// Puts the longer table to the front: how many numbers it has.
+fn put_longer(numbers: &mut [u16], count: usize, column: usize, cells: &[u16]) -> usize
+    requires { ⌜ (column < columnCount) × (columnCount ≤ length (begun (take count (now numbers)))) ⌝ }
+    requires { ⌜ (length (now cells) ≤ longestColumn) × (length (begun (take count (now numbers))) + length (now cells) ≤ length (now numbers)) ⌝ }
+    ensures { λ r. ⌜ r ≡ length (longer (begun (take count (now (numbers .entry)))) column (now (cells .entry))) ⌝ }
+    ensures { λ _. ⌜ now (numbers .exit) ≡ longer (begun (take count (now (numbers .entry)))) column (now (cells .entry)) ++ drop (length (longer (begun (take count (now (numbers .entry)))) column (now (cells .entry)))) (now (numbers .entry)) ⌝ }
 {
-    let v = judge(table, column, cells, out.len());
+    let many = begin(numbers, count);
+    numbers[column] = cells.len() as u16;
+    put_all(cells, numbers, many);
+    many + cells.len()
+}
+
+// Extends in place the table that is the first `count` of the numbers: how many numbers it has then, or why it is left.
+pub fn extend(numbers: &mut [u16], count: usize, column: usize, cells: &[u16]) -> Written
+    ensures { λ r. ⌜ r ≡ written (extensible (begun (take count (now (numbers .entry)))) column (now (cells .entry)) (length (now (numbers .entry)))) (longer (begun (take count (now (numbers .entry)))) column (now (cells .entry))) ⌝ }
+    ensures { λ _. ⌜ now (numbers .exit) ≡ bufferAfter (extensible (begun (take count (now (numbers .entry)))) column (now (cells .entry)) (length (now (numbers .entry)))) (longer (begun (take count (now (numbers .entry)))) column (now (cells .entry))) (now (numbers .entry)) ⌝ }
+{
+    let v = judge(numbers, count, column, cells);
     match v {
         Verdict::Refused(refusal) => Written::Refused(refusal),
-        Verdict::Accepted => {
-            put_longer(table, column, cells, out);
-            Written::Count(table.len() + cells.len())
-        }
+        Verdict::Accepted => Written::Count(put_longer(numbers, count, column, cells)),
     }
-}
-
-// The table longer by a column, at the front of `out`: how many numbers it has, or why it cannot be.
-pub fn extend(table: &[u16], column: usize, cells: &[u16], out: &mut [u16]) -> Written
-    ensures { λ r. ⌜ r ≡ written (extensible (begun (now (table .entry))) column (now (cells .entry)) (length (now (out .entry)))) (longer (begun (now (table .entry))) column (now (cells .entry))) ⌝ }
-    ensures { λ _. ⌜ now (out .exit) ≡ bufferAfter (extensible (begun (now (table .entry))) column (now (cells .entry)) (length (now (out .entry)))) (longer (begun (now (table .entry))) column (now (cells .entry))) (now (out .entry)) ⌝ }
-{
-    if table.len() == 0 {
-        let no_columns = [0u16; table_parts::COLUMNS];
-        return extend_begun(&no_columns, column, cells, out);
-    }
-    extend_begun(table, column, cells, out)
 }

@@ -1,12 +1,11 @@
 -- "T,kind,type,cells: .. It extends the table; refused (6) where its column or a later one already has cells." "33 T once an area stands."
-use Rattle.laws.specs.{ℕ, List, leb, length, replicate}
-use Rattle.refusals.specs.{Verdict, weighed, andThen, bufferAfter, Refusal}
+use Rattle.laws.specs.{ℕ, List, leb}
+use Rattle.refusals.specs.{Verdict, weighed, andThen, Refusal}
 use Rattle.table.specs.{longestTable}
 use Rattle.table_extend.specs.{begun, longer, extensible}
 use Rattle.line_cells.specs.{tenthsAll}
 use Rattle.line_column.specs.{cellsOf, columnOf}
 use Rattle.line.specs.{fieldsOf, asColumn}
-use Rattle.table_grow.specs.declared.Grown.{Grown}
 
 -- the number of the column that a T line names
 unfoldable pub lineColumn : List ℕ → ℕ
@@ -24,19 +23,3 @@ longerBy own line = longer (begun own) (lineColumn line) (lineCells line)
 unfoldable pub growable : List ℕ → ℕ → List ℕ → Verdict
 growable own areas line =
     weighed (andThen (asColumn line) (extensible (begun own) (lineColumn line) (lineCells line) longestTable)) (leb 1 areas) Refusal.TableAfterArea
-
-abbrev pub countAfter : Verdict → List ℕ → ℕ
-countAfter Verdict.Accepted numbers = length numbers
-countAfter (Verdict.Refused refusal) numbers = 0
-
--- what a verdict makes of the longer table
-abbrev pub grownOf : Verdict → List ℕ → Grown
-grownOf verdict numbers =
-    record {
-      verdict = verdict;
-      count = countAfter verdict numbers;
-      numbers = bufferAfter verdict numbers (replicate longestTable 0);
-    }
-
-unfoldable pub grownBy : List ℕ → ℕ → List ℕ → Grown
-grownBy own areas line = grownOf (growable own areas line) (longerBy own line)

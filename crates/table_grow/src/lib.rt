@@ -1,11 +1,11 @@
-// The participant's table longer by a T line's column.
+// The participant's table longer by a T line's column, in place.
 ghost use mathlib.Core.Path.{_≡_};
-ghost use mathlib.Core.List.{[]};
+ghost use lib.ListN.{take};
 ghost use lib.Dec.{leb};
-ghost use Rattle.refusals.specs.{weighed};
+ghost use Rattle.refusals.specs.{weighed, written, bufferAfter};
 ghost use Rattle.table.specs.{longestTable};
 ghost use Rattle.table_extend.specs.{begun, longer, extensible};
-ghost use Rattle.table_grow.specs.{grownOf, grownBy};
+ghost use Rattle.table_grow.specs.{longerBy, growable};
 use refusals::Refusal;
 use refusals::Verdict;
 use refusals::Written;
@@ -13,55 +13,39 @@ use table::LONGEST_TABLE;
 
 const MOST_CELLS: usize = table::LONGEST_COLUMN as usize;
 
-// Where the line is turned back there is no table: no count, and noughts.
-pub struct Grown {
-    pub verdict: Verdict,
-    pub count: usize,
-    pub numbers: [u16; LONGEST_TABLE],
-}
-
-fn turned(refusal: Refusal) -> Grown
-    ensures { λ r. ⌜ r ≡ grownOf (Verdict.Refused refusal) [] ⌝ }
+// The table longer by a column of given cells. Where areas stand nothing is written, and the table's own refusal has the smaller number.
+fn grow_by(
+    numbers: &mut [u16; LONGEST_TABLE],
+    count: usize,
+    areas: usize,
+    column: usize,
+    cells: &[u16],
+) -> Written
+    ensures { λ r. ⌜ r ≡ written (weighed (extensible (begun (take count (now (numbers .entry)))) column (now (cells .entry)) longestTable) (leb 1 areas) Refusal.TableAfterArea) (longer (begun (take count (now (numbers .entry)))) column (now (cells .entry))) ⌝ }
+    ensures { λ _. ⌜ now (numbers .exit) ≡ bufferAfter (weighed (extensible (begun (take count (now (numbers .entry)))) column (now (cells .entry)) longestTable) (leb 1 areas) Refusal.TableAfterArea) (longer (begun (take count (now (numbers .entry)))) column (now (cells .entry))) (now (numbers .entry)) ⌝ }
 {
-    Grown {
-        verdict: Verdict::Refused(refusal),
-        count: 0,
-        numbers: [0u16; LONGEST_TABLE],
+    if areas == 0 {
+        return table_extend::extend(numbers, count, column, cells);
+    }
+    let v = table_extend::judge(numbers, count, column, cells);
+    match v {
+        Verdict::Refused(refusal) => Written::Refused(refusal),
+        Verdict::Accepted => Written::Refused(Refusal::TableAfterArea),
     }
 }
 
-// The table longer by a column of given cells.
-fn grow_by(own: &[u16], areas: usize, column: usize, cells: &[u16]) -> Grown
-    ensures { λ r. ⌜ r ≡ grownOf (weighed (extensible (begun (now (own .entry))) column (now (cells .entry)) longestTable) (leb 1 areas) Refusal.TableAfterArea) (longer (begun (now (own .entry))) column (now (cells .entry))) ⌝ }
-{
-    let mut numbers = [0u16; LONGEST_TABLE];
-    let answer = table_extend::extend(own, column, cells, &mut numbers);
-    match answer {
-        Written::Refused(refusal) => turned(refusal),
-        Written::Count(count) => {
-            if 1 <= areas {
-                return turned(Refusal::TableAfterArea);
-            }
-            Grown {
-                verdict: Verdict::Accepted,
-                count,
-                numbers,
-            }
-        }
-    }
-}
-
-// The participant's table after a T line, by how many areas stand.
-pub fn grow(own: &[u16], areas: usize, line: &[u8]) -> Grown
-    ensures { λ r. ⌜ r ≡ grownBy (now (own .entry)) areas (now (line .entry)) ⌝ }
+// Extends by a T line the table that is the first `count` of the numbers, where so many areas stand: how many numbers it has then, or why it is left.
+pub fn grow(numbers: &mut [u16; LONGEST_TABLE], count: usize, areas: usize, line: &[u8]) -> Written
+    ensures { λ r. ⌜ r ≡ written (growable (take count (now (numbers .entry))) areas (now (line .entry))) (longerBy (take count (now (numbers .entry))) (now (line .entry))) ⌝ }
+    ensures { λ _. ⌜ now (numbers .exit) ≡ bufferAfter (growable (take count (now (numbers .entry))) areas (now (line .entry))) (longerBy (take count (now (numbers .entry))) (now (line .entry))) (now (numbers .entry)) ⌝ }
 {
     let mut cells = [0u16; MOST_CELLS];
     let read = line::read_column(line, &mut cells);
     let verdict = read.verdict;
     let column = read.column;
-    let count = read.count;
+    let many = read.count;
     match verdict {
-        Verdict::Refused(refusal) => turned(refusal),
-        Verdict::Accepted => grow_by(own, areas, column, &cells[0..count]),
+        Verdict::Refused(of_line) => Written::Refused(of_line),
+        Verdict::Accepted => grow_by(numbers, count, areas, column, &cells[0..many]),
     }
 }

@@ -53,12 +53,3 @@ pub fn value_u16(number: Number) -> u16
     }
     value(number) as u16
 }
-
-pub fn value_u8(number: Number) -> u8
-    ensures { λ r. ⌜ r ≡ fitted 255 number ⌝ }
-{
-    if is_outside(number, 0, 255) {
-        return 0;
-    }
-    value(number) as u8
-}

@@ -12,11 +12,11 @@ returns c =
 
 returns-2 : tie.Need-returns-2
 returns-2 c =
-    let start = c .before .before .before .before .before .before .before .before .before .before in
+    let start = c .before .before .before .before .before .before .before .before .before .before .before in
     let a = start .args in
-    let t = c .take-column .ensures in
-    line-column (a .table .now) (a .count .now) (start .pre .0) (start .pre .1) (a .default .now) (a .looked) (a .line .now) (a .parsed) _ _ _ _ _
-    (c .before .before .before .before .before .before .parsed .given .1) (c .before .before .before .enum-told2 .given .1) (t .0) (t .1 .0) (t .1 .1)
+    let t = c .before .take-column .ensures in
+    line-column (a .table .now) (a .count .now) (start .pre .0) (start .pre .1) (a .default .now) (a .looked) (a .line .now) (a .parsed) _ _ _ _ _ _
+    (c .before .before .before .before .before .before .before .parsed .given .1) (c .before .before .before .before .enum-told2 .given .1) (c .column-outcome .ensures) (t .0) (t .1 .0) (t .1 .1)
 
 returns-3 : tie.Need-returns-3
 returns-3 c =
@@ -27,5 +27,4 @@ returns-3 c =
 
 pub take-line-spec : {M : Type 1} → Rattle.book_run.proofs.take_line.Statement.statement M
 take-line-spec = tie.close (tie.spec (λ c. search needs) (λ c. search needs) (λ c κs. search needs) (λ c κs. search needs) returns (λ c. search needs)
-    (λ c κs. search needs) (λ c. search needs) (λ c. search needs) (λ c. search needs) (λ c. search needs) (λ c κs. search needs)
-    returns-2 returns-3)
+    (λ c. search needs) (λ c κs. search needs) (λ c κs. search needs) returns-2 (λ c. search needs) (λ c. search needs) (λ c. search needs) (λ c κs. search needs) returns-3)

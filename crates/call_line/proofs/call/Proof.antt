@@ -1,8 +1,7 @@
 -- `call_line::call` meets its contract: a T line by itself; of any other, a refused line decides, then bytes that are no numbers, and then the act.
 use Rattle.laws.proofs.{sym, ap, _∙_, arith, needs}
-use Rattle.line_entry.specs.{Parsed}
+use Rattle.line_entry.specs.{Parsed, refusedBy}
 use Rattle.line.proofs.Columns.{column-named}
-use Rattle.call_line.specs.{refusedBy}
 use Rattle.call_answer.proofs.Order.{line-decides, table-decides}
 use Rattle.call_answer.proofs.TableRead.{no-table, table-refused, table-few, table-lent}
 use Rattle.call_line.proofs.Given.{call-refused, call-by, call-step}

@@ -46,9 +46,9 @@ returns-2 c =
     let clear = c .before .before .before .before .enum-told .given .1 in
     let none = ruled-out _ (sym (verdict w) ∙ clear) in
     let area = value-found 1 999 65535 _ _ _ (c .before .before .before .value-u16 .ensures) (number-found _ _ 1 _ scanned (lit< tt) (r .before .before .before .before .number-at .ensures)) (lit≤ tt) (none 4) in
-    let sub = value-found 1 99 255 _ _ _ (c .before .before .value-u8 .ensures) (number-found _ _ 2 _ scanned (lit< tt) (r .before .before .before .number-at2 .ensures)) (lit≤ tt) (none 5) in
+    let sub = value-found 1 99 65535 _ _ _ (c .before .before .value-u162 .ensures) (number-found _ _ 2 _ scanned (lit< tt) (r .before .before .before .number-at2 .ensures)) (lit≤ tt) (none 5) in
     let type = found named _ _ 3 _ scanned (lit< tt) (r .before .read .ensures ∙ ap named (r .before .before .field .ensures)) in
-    let year = value-found 2008 2199 65535 _ _ _ (c .value-u162 .ensures) (number-found _ _ 4 _ scanned (lit< tt) (r .number-at3 .ensures)) (lit≤ tt) (none 7) in
+    let year = value-found 2008 2199 65535 _ _ _ (c .value-u163 .ensures) (number-found _ _ 4 _ scanned (lit< tt) (r .number-at3 .ensures)) (lit≤ tt) (none 7) in
     taken _ _ _ _ (verdict w) clear (simp (area, sub, c .before .forest-of .ensures, type, year))
 
 pub plant-entry-spec : {M : Type 1} → Rattle.line_stand.proofs.plant_entry.Statement.statement M

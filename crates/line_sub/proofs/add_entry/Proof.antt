@@ -55,12 +55,12 @@ returns-2 c =
     let clear = told .enum-told .given .1 in
     let none = ruled-out _ (sym (verdict w) ∙ clear) in
     let area = value-found 1 999 65535 _ _ _ (c .before .before .before .before .before .value-u16 .ensures) (number-found _ _ 1 _ scanned (lit< tt) (r .before .before .before .before .before .before .number-at .ensures)) (lit≤ tt) (none 5) in
-    let sub = value-found 1 99 255 _ _ _ (c .before .before .before .before .value-u8 .ensures) (number-found _ _ 2 _ scanned (lit< tt) (r .before .before .before .before .before .number-at2 .ensures)) (lit≤ tt) (none 6) in
+    let sub = value-found 1 99 65535 _ _ _ (c .before .before .before .before .value-u162 .ensures) (number-found _ _ 2 _ scanned (lit< tt) (r .before .before .before .before .before .number-at2 .ensures)) (lit≤ tt) (none 6) in
     let hectares =
     value-found 10000 100000000 4294967295 _ _ _ (c .before .before .before .value-u32 .ensures)
     (found hectaresIn _ _ 3 _ scanned (lit< tt) (r .before .before .before .hectares .ensures ∙ ap hectaresIn (r .before .before .before .before .field .ensures))) (lit≤ tt) (none 8) in
     let type = found named _ _ 4 _ scanned (lit< tt) (r .before .read .ensures ∙ ap named (r .before .before .field2 .ensures)) in
-    let planted = planted-found (typeAt (split (r .before .before .before .before .before .before .before .before .before .args .line .now)) 4) _ _ _ (c .value-u162 .ensures) (number-found _ _ 5 _ scanned (lit< tt) (r .number-at3 .ensures)) (none 9) in
+    let planted = planted-found (typeAt (split (r .before .before .before .before .before .before .before .before .before .args .line .now)) 4) _ _ _ (c .value-u163 .ensures) (number-found _ _ 5 _ scanned (lit< tt) (r .number-at3 .ensures)) (none 9) in
     taken _ _ _ _ (verdict w) clear (simp (area, sub, c .before .before .rounded .ensures ∙ ap tenthsOf hectares, c .before .forest-of .ensures, type, planted))
 
 pub add-entry-spec : {M : Type 1} → Rattle.line_sub.proofs.add_entry.Statement.statement M

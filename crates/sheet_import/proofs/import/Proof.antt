@@ -13,7 +13,7 @@ use Rattle.call_output.proofs.Given.{gives-written, gives-as}
 use Rattle.sheet_import.specs.{importOnto}
 use Rattle.sheet_import.proofs.Rows.{rows-over}
 use Rattle.sheet_import.proofs.Onto.{onto-verdict, onto-bytes, within, all-put}
-use Rattle.sheet_import.proofs.import.Proof.Taken.{Inv-loop, μ-loop, Inv-loop2, μ-loop2, Inv-loop3, μ-loop3, Inv-loop4, μ-loop4, AtRows, few, loop-holds, loop-again, numbered, returns, reads, returns-2, rowsAt, sixOf, judgedOf, argsOf, givenOf, holdingOf, loop2-holds, all-numbered, less, placedOf, placeOf, loop2-again, loop2-again-2, loop2-again-3, comes-to, returns-3}
+use Rattle.sheet_import.proofs.import.Proof.Taken.{Inv-loop, μ-loop, Inv-loop2, μ-loop2, Inv-loop3, μ-loop3, Inv-loop4, μ-loop4, AtRows, few, loop-holds, loop-again, numbered, returns, reads, returns-2, rowsAt, sixOf, judgedOf, argsOf, givenOf, holdingOf, loop2-holds, all-numbered, entryOf, less, placedOf, placeOf, loop2-again, loop2-again-2, loop2-again-3, comes-to, returns-3, returns-4, returns-5}
 use Rattle.sheet_import.proofs.import.Tie as tie
 
 -- ---- the new statement is measured and written
@@ -50,8 +50,8 @@ loop3-again c =
     let stands = standing3 test in
     (omega (arith, stands .0), put-next areaText _ _ (b .loop3 .j) areaWidth (b .loop3 .inv .1) _ (stands .1) (omega (arith, stands .0, l .loop2 .inv .0)) (put .put-area .ensures))
 
-returns-4 : tie.Need-returns-4 Inv-loop μ-loop Inv-loop2 μ-loop2 Inv-loop3 μ-loop3 Inv-loop4 μ-loop4
-returns-4 c =
+returns-6 : tie.Need-returns-6 Inv-loop μ-loop Inv-loop2 μ-loop2 Inv-loop3 μ-loop3 Inv-loop4 μ-loop4
+returns-6 c =
     let o = c .before in
     let b = o .before in
     let l = rowsIn b in
@@ -95,8 +95,8 @@ loop4-again c =
 same-length : tie.Need-same-length Inv-loop μ-loop Inv-loop2 μ-loop2 Inv-loop3 μ-loop3 Inv-loop4 μ-loop4
 same-length c = let w = c .before in wrote-length (w .loop4 .inv .1 .wrote) ∙ wrote-length (lineOf w .put-first2 .ensures .wrote)
 
-returns-5 : tie.Need-returns-5 Inv-loop μ-loop Inv-loop2 μ-loop2 Inv-loop3 μ-loop3 Inv-loop4 μ-loop4
-returns-5 c =
+returns-7 : tie.Need-returns-7 Inv-loop μ-loop Inv-loop2 μ-loop2 Inv-loop3 μ-loop3 Inv-loop4 μ-loop4
+returns-7 c =
     let w = c .before in
     let room = roomOf w in
     let b = putOf w in
@@ -111,4 +111,4 @@ returns-5 c =
     (gives-written Verdict.Accepted _ _ _ _ refl (accepted _ _ (all .wrote) (omega (arith, all .few)) _ _ _ (room .if4 .left) (put .wrote)))
 
 pub import-spec : {M : Type 1} → Rattle.sheet_import.proofs.import.Statement.statement M
-import-spec = tie.close (tie.spec Inv-loop μ-loop Inv-loop2 μ-loop2 Inv-loop3 μ-loop3 Inv-loop4 μ-loop4 (λ c κs. search needs) (λ c κs. search needs) (λ c κs. search needs) loop-holds (λ c κs. search needs) (λ c κs. search needs) (λ c. omega (arith, c .before .before .before .loop-test .taken, few (c .before .before .before .before))) (λ c. omega (arith, c .before .before .before .loop-test .taken, few (c .before .before .before .before))) (λ c. omega (arith, c .before .before .before .loop-test .taken, few (c .before .before .before .before))) (λ c. omega (arith, c .before .before .before .loop-test .taken, few (c .before .before .before .before))) (λ c. search needs) (λ c. search needs) loop-again (λ c. search needs) (λ c. search needs) (λ c. omega (arith, few (c .before .before), numbered (c .before .before))) (λ c κs. search needs) returns (λ c κs. search needs) (λ c. search needs) returns-2 (λ c. search needs) (λ c κs. search needs) (λ c. search needs) (λ c κs. search needs) (λ c κs. search needs) loop2-holds (λ c κs. search needs) (λ c. all-numbered (c .before .before .before)) (λ c κs. search needs) (λ c κs. search needs) (λ c. search needs) (λ c. omega arith) (λ c. c .if2 .taken) (λ c. search needs) (λ c. let six = sixOf (rowsAt (c .before)) .schedule-six in search (needs, six .ok, six .ensures)) (λ c κs. search needs) (λ c. search needs) returns-3 (λ c. search needs) (λ c. search needs) (λ c. omega arith) (λ c. c .if3 .taken) (λ c. omega arith) (λ c. c .if3 .taken) (λ c. search needs) (λ c. let t = placedOf (placeOf (c .before)) in less t (c .before .before .before .before .before .enum-told3 .given .1)) loop2-again (λ c. let t = placedOf (placeOf (c .before)) in less t (c .before .before .before .before .before .enum-told3 .given .1)) loop2-again-2 (λ c. less (c .before .before .before .before) (c .before .before .enum-told3 .given .1)) loop2-again-3 (λ c. search needs) (λ c κs. search needs) loop3-holds (λ c. omega (arith, standing3 c .0)) (λ c. omega (arith, standing3 c .0)) (λ c. let b = c .before .before .before in search (needs, b .before .unkept4 .given, wrote-length (b .loop3 .inv .1 .wrote), sym (wrote-length (b .loop3 .inv .1 .wrote)), wrote-length (b .before .before .put-first .ensures .wrote))) (λ c κs. search needs) (λ c. omega (arith, c .before .before .before .before .before .loop3 .inv .0)) (λ c. omega (arith, standing3 (c .before .before .before .before) .0)) loop3-again returns-4 (λ c κs. search needs) loop4-holds (λ c. omega (arith, standing4 c .0)) (λ c. omega (arith, standing4 c .0)) (λ c κs. search needs) (λ c. omega (arith, c .before .before .before .before .before .before .loop4 .inv .0)) (λ c. omega (arith, standing4 (c .before .before .before .before .before) .0)) loop4-again same-length returns-5)
+import-spec = tie.close (tie.spec Inv-loop μ-loop Inv-loop2 μ-loop2 Inv-loop3 μ-loop3 Inv-loop4 μ-loop4 (λ c κs. search needs) (λ c κs. search needs) (λ c κs. search needs) loop-holds (λ c κs. search needs) (λ c κs. search needs) (λ c. omega (arith, c .before .before .before .loop-test .taken, few (c .before .before .before .before))) (λ c. omega (arith, c .before .before .before .loop-test .taken, few (c .before .before .before .before))) (λ c. omega (arith, c .before .before .before .loop-test .taken, few (c .before .before .before .before))) (λ c. omega (arith, c .before .before .before .loop-test .taken, few (c .before .before .before .before))) (λ c. search needs) (λ c. search needs) loop-again (λ c. search needs) (λ c. search needs) (λ c. omega (arith, few (c .before .before), numbered (c .before .before))) (λ c κs. search needs) returns (λ c κs. search needs) (λ c. search needs) returns-2 (λ c. search needs) (λ c κs. search needs) (λ c κs. search needs) (λ c κs. search needs) loop2-holds (λ c κs. search needs) (λ c. all-numbered (c .before .before .before)) (λ c κs. search needs) (λ c κs. search needs) (λ c. search needs) (λ c. omega arith) (λ c. c .if2 .taken) (λ c. search needs) (λ c. search needs) (λ c. search needs) (λ c κs. search needs) returns-3 (λ c. search needs) (λ c. search needs) returns-4 (λ c. let six = sixOf (rowsAt (entryOf (c .before .before .before .before .before))) .schedule-six in search (needs, six .ok, six .ensures)) (λ c κs. search needs) (λ c. search needs) returns-5 (λ c. search needs) (λ c. search needs) (λ c. omega arith) (λ c. c .if3 .taken) (λ c. omega arith) (λ c. c .if3 .taken) (λ c. search needs) (λ c. let t = placedOf (placeOf (c .before)) in less t (c .before .before .before .before .before .enum-told5 .given .1)) loop2-again (λ c. let t = placedOf (placeOf (c .before)) in less t (c .before .before .before .before .before .enum-told5 .given .1)) loop2-again-2 (λ c. less (c .before .before .before .before) (c .before .before .enum-told5 .given .1)) loop2-again-3 (λ c. search needs) (λ c κs. search needs) loop3-holds (λ c. omega (arith, standing3 c .0)) (λ c. omega (arith, standing3 c .0)) (λ c. let b = c .before .before .before in search (needs, b .before .unkept2 .given, wrote-length (b .loop3 .inv .1 .wrote), sym (wrote-length (b .loop3 .inv .1 .wrote)), wrote-length (b .before .before .put-first .ensures .wrote))) (λ c κs. search needs) (λ c. omega (arith, c .before .before .before .before .before .loop3 .inv .0)) (λ c. omega (arith, standing3 (c .before .before .before .before) .0)) loop3-again returns-6 (λ c κs. search needs) loop4-holds (λ c. omega (arith, standing4 c .0)) (λ c. omega (arith, standing4 c .0)) (λ c κs. search needs) (λ c. omega (arith, c .before .before .before .before .before .before .loop4 .inv .0)) (λ c. omega (arith, standing4 (c .before .before .before .before .before) .0)) loop4-again same-length returns-7)

@@ -1,6 +1,6 @@
 -- `statement_judge::area` meets its contract, which joins the same tests. The loop's invariant: what is kept so far and from here on makes the whole, and
 -- the numbers of the first i sub-areas stand at the front.
-use Rattle.laws.proofs.{ℕ, _-_, _≤_, _&&_, _≡_, refl, sym, ap, _∙_, ⊎-elim, arith, length, length-set, take, drop, map, needs}
+use Rattle.laws.proofs.{_-_, _≤_, _&&_, _≡_, refl, _∙_, ⊎-elim, arith, length, length-set, take, drop, map, needs}
 use Rattle.laws.specs.{every, allOf}
 use Rattle.laws.proofs.Standing.{as-long}
 use Rattle.laws.proofs.Order.{below-or-not}
@@ -26,11 +26,11 @@ loop-holds c = (simp (c .fields .ensures), search needs, refl, refl)
 
 loop-again : tie.Need-loop-again Inv-loop μ-loop
 loop-again c =
-    let l = c .before .before .before .before .loop in
-    let b = c .before .before .before .before .before .before in
+    let l = c .before .before .before .loop in
+    let b = c .before .before .before .before .before in
     let a = b .before .args .t1 in (
       every-more (subCarried a) (a .subs) (a .count) (l .i) (l .kept) _ (l .inv .0) _ _ (omega (arith, b .lesser .ensures)) (omega (arith, b .lesser .ensures, all-places (b .before)))
-          (c .before .sub .ensures a refl refl),
+          (c .sub .ensures a refl refl),
       search needs,
       simp length-set (l .inv .2),
       borne-more (λ (x : Sub). x .number) (a .subs) (l .borne) _ (l .i) (omega (arith, b .lesser .ensures, all-places (b .before))) (omega (arith, b .lesser .ensures)) (l .inv .3),
@@ -54,5 +54,5 @@ returns c =
 
 pub area-spec : {M : Type 1} → Rattle.statement_judge.proofs.area.Statement.statement M
 area-spec = tie.close (tie.spec Inv-loop μ-loop (λ c κs. search needs) (λ c κs. search needs) loop-holds (λ c. search needs) (λ c. search needs) (λ c κs. search needs)
-    (λ c. search needs) (λ c. search needs) (λ c. search needs) (λ c. search needs) (λ c. search needs) loop-again (λ c. search needs) (λ c. search needs)
+    (λ c. search needs) (λ c. search needs) (λ c. search needs) (λ c. search needs) loop-again (λ c. search needs) (λ c. search needs)
     (λ c. search needs) (λ c κs. search needs) returns)

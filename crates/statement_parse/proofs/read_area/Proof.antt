@@ -16,9 +16,9 @@ abbrev μ-loop : tie.MeasureT-loop
 
 loop-holds : tie.Need-loop-holds Inv-loop μ-loop
 loop-holds c =
-    let count = c .before .before .number .result .value in
+    let count = c .before .number .result .value in
     let all : count - 0 ≡ count = omega arith in
-    (omega arith, refl, refl, simp (c .empty-sub .ensures, all))
+    (omega arith, refl, refl, simp all)
 
 set-subs : (area begun : Area) (subs other : List Sub) (n : ℕ) → area ≡ withSubs n subs begun → withSubs (area .count) other area ≡ withSubs n other begun
 set-subs area begun subs other n e = ap (λ (a : Area). withSubs (a .count) other a) e
@@ -27,7 +27,7 @@ loop-again : tie.Need-loop-again Inv-loop μ-loop
 unfolding subsFrom
 loop-again c =
     let l = c .before .before .before .loop in
-    let amounts = c .before .before .before .before .before .before .before in
+    let amounts = c .before .before .before .before .before .before in
     let read = c .before .read-sub .ensures in (
       omega arith,
       simp length-set (l .inv .1),
@@ -47,7 +47,7 @@ returns : tie.Need-returns Inv-loop μ-loop
 unfolding areaLineWithin subsWithin subsFrom
 returns c =
     let l = c .before .loop in
-    let counted = c .before .before .before .before in
+    let counted = c .before .before .before in
     let amounts = counted .before in
     read-all (areaBegun (amounts .before .read-years .result) (amounts .read-amounts .result)) (l .area) _ (l .next) _ (l .inv .2) (items-done _ _ _ (l .i) (l .area .subs) (l .next) (c .loop-test .left) ∙ l .inv .3)
     ∙ simp (
@@ -58,5 +58,5 @@ returns c =
     )
 
 pub read-area-spec : {M : Type 1} → Rattle.statement_parse.proofs.read_area.Statement.statement M
-read-area-spec = tie.close (tie.spec Inv-loop μ-loop (λ c κs. search needs) (λ c κs. search needs) (λ c κs. search needs) (λ c κs. search needs) (λ c κs. search needs)
+read-area-spec = tie.close (tie.spec Inv-loop μ-loop (λ c κs. search needs) (λ c κs. search needs) (λ c κs. search needs) (λ c κs. search needs)
     loop-holds (λ c κs. search needs) (λ c. search needs) (λ c. search needs) (λ c. search needs) (λ c. search needs) loop-again returns)

@@ -13,7 +13,7 @@ returns c =
     let forest = planted .before .before .before .before in
     let tenths = forest .before .before .before .before in
     let number = tenths .before .before .before .before .before in
-    let letter = number .before .before .before .before .before in
+    let letter = number .before .before .before .before in
     rw sub-text
     (put-then (letter .put-start .ensures)
     (put-then (number .put-short .ensures)
@@ -23,5 +23,5 @@ returns c =
     (put-last (residue .put-residue .ensures)))))))
 
 pub put-sub-spec : {M : Type 1} → Rattle.statement_sub.proofs.put_sub.Statement.statement M
-put-sub-spec = tie.close (tie.spec (λ c κs. search needs) (λ c. search needs) (λ c κs. search needs) (λ c. search needs) (λ c κs. search needs)
+put-sub-spec = tie.close (tie.spec (λ c κs. search needs) (λ c κs. search needs) (λ c. search needs) (λ c κs. search needs)
     (λ c κs. search needs) (λ c κs. search needs) (λ c κs. search needs) (λ c. search needs) returns)
