@@ -1,3 +1,5 @@
+#![tactic(auto)]
+
 // Lists the book on standard input, a part at a time.
 use book_parts::PART_ROOM;
 use libc::{STDIN_FILENO, STDOUT_FILENO};

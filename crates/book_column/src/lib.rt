@@ -1,3 +1,5 @@
+#![tactic(auto)]
+
 // A T line's turn in a book: the table longer in place.
 ghost use Rattle.std.specs.Prelude.{◌≡◌, take};
 ghost use Rattle.table_grow.specs.{growable};

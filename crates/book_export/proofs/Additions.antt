@@ -1,5 +1,5 @@
 -- A line that is read as an S entry has the letter S and six fields: of the letters' rules S's alone gives such an entry, and it asks for these.
-use Rattle.laws.proofs.{ℕ, ◌≡◌, refl, ap, ◌∙◌, true, false, List, eqb-true, not_false, length, get_or, sym}
+use Rattle.laws.proofs.{ℕ, ◌≡◌, refl, ap, ◌∙◌, true, false, List, eqb-true, not-false, length, get_or, sym}
 use Rattle.laws.proofs.Elements.{or_false_left, or_false_right, clash}
 use Rattle.refusals.specs.{Refusal, Verdict, ◌⇒◌, smallest}
 use Rattle.refusals.proofs.Laws.{ruled_out}
@@ -37,6 +37,6 @@ addition_fields line a = go (smallest (conditions body)) refl a
         let formed : misformed 83 6 fs ≡ false =
         ap (λ (rule : Rule). (get_or rule.cases 0 (false ⇒ Refusal.Form)).applies) (rule_adds (letter_of body) fs a) ∙ ruled_out (conditions body) e 2 in
         record {
-          many = eqb-true (length fs) 6 (not_false _ (or_false_right (misnamed 83 fs) _ formed));
-          named = eqb-true (letter_in (field_at fs 0)) 83 (not_false _ (or_false_left (misnamed 83 fs) _ formed));
+          many = eqb-true (length fs) 6 (not-false _ (or_false_right (misnamed 83 fs) _ formed));
+          named = eqb-true (letter_in (field_at fs 0)) 83 (not-false _ (or_false_left (misnamed 83 fs) _ formed));
         }

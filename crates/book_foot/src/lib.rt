@@ -1,3 +1,5 @@
+#![tactic(auto)]
+
 // The foot of a listing: the units of all areas, withdrawn ones included.
 ghost use Rattle.std.specs.Prelude.{true, ◌≡◌};
 ghost use Rattle.holding_look.specs.{units_of};

@@ -1,3 +1,5 @@
+#![tactic(auto)]
+
 // Lists a book into a lent buffer.
 ghost use Rattle.std.specs.Prelude.{◌≡◌, length};
 ghost use Rattle.book_listing.specs.{listing_of};

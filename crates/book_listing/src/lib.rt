@@ -1,3 +1,5 @@
+#![tactic(auto)]
+
 // What is put for each line of a book.
 ghost use Rattle.std.specs.Prelude.{◌≡◌, ◌≤◌};
 ghost use Rattle.book_print.specs.{report_width};

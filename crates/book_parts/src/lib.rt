@@ -1,3 +1,5 @@
+#![tactic(auto)]
+
 // The listing of a book, a part at a time or whole.
 ghost use Rattle.std.specs.Prelude.{◌+◌};
 ghost use Rattle.text.specs.{Wrote};

@@ -1,6 +1,6 @@
 -- What a step reports is short: an area that is kept has a return for each of its years at most, each within its limit of tonnes received, and a
 -- return's change is at most `most_change`.
-use Rattle.laws.proofs.{ℕ, ◌+◌, ◌-◌, ◌*◌, ◌≤◌, true, ◌≡◌, refl, List, arith, not_false, length}
+use Rattle.laws.proofs.{ℕ, ◌+◌, ◌-◌, ◌*◌, ◌≤◌, true, ◌≡◌, refl, List, arith, not-false, length}
 use Rattle.book_room.specs.{return_width, withdrawal_width}
 use Rattle.refusals.specs.{Verdict}
 use Rattle.units.specs.{Change}
@@ -74,7 +74,7 @@ module _ (own : List ℕ) (table : is_table own ≡ true) (holding : Holding) (k
       answer_length return_width _ _
       (λ e.
       let out = ruled_out (file_cases number last found area) e in
-      returned-length area (area-found holding kept number (not_false (known found) (out 3))) own table last (not_false (is_year last) (out 1)))
+      returned-length area (area-found holding kept number (not-false (known found) (out 3))) own table last (not-false (is_year last) (out 1)))
 
   withdrawn-length : (number : ℕ) → length (report_text (withdrawn (looked_up holding number)).report) ≤ withdrawal_width
   unfolding withdrawn withdraw_cases area_cases
@@ -84,7 +84,7 @@ module _ (own : List ℕ) (table : is_table own ≡ true) (holding : Holding) (k
       answer_length withdrawal_width _ _
       (λ e.
       let out = ruled_out (withdraw_cases number found area) e in
-      let k = area-found holding kept number (not_false (known found) (out 2)) in
+      let k = area-found holding kept number (not-false (known found) (out 2)) in
       withdrawal_length area.number (balance_of area) (omega (arith, within 1 area.number last_area k.fields.number))
       (omega (arith, received_at_most area k)))
 

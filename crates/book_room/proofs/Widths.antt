@@ -1,6 +1,6 @@
 -- How short a line of an entry that prints can be: R has three fields, of which the last is a year, and W has two.
 use Rattle.laws.proofs.Elements.{or_false_right, clash}
-use Rattle.laws.proofs.{ℕ, zero, suc, ◌+◌, ◌-◌, ◌*◌, ◌/◌, ◌≤◌, ◌<◌, Bool, true, false, cond, ◌≡◌, refl, ap, List, [], ◌∷◌, arith, eqb, eqb-true, not_false, length, get_or, take, length-take}
+use Rattle.laws.proofs.{ℕ, zero, suc, ◌+◌, ◌-◌, ◌*◌, ◌/◌, ◌≤◌, ◌<◌, Bool, true, false, cond, ◌≡◌, refl, ap, List, [], ◌∷◌, arith, eqb, eqb-true, not-false, length, get_or, take, length-take}
 use Rattle.book_room.specs.{return_width, withdrawal_width, most_for_byte}
 use Rattle.text.specs.{digits, extend, split, field_at}
 use Rattle.text.proofs.Digits.{length-digits_step, digits-some}
@@ -75,7 +75,7 @@ most_printed_by (Entry.On on) = most_printed on.act
 
 module _ (s : List ℕ) where
   counted : (letter n : ℕ) → misformed letter n (split s) ≡ false → length (split s) ≡ n
-  counted letter n e = eqb-true (length (split s)) n (not_false _ (or_false_right (misnamed letter (split s)) _ e))
+  counted letter n e = eqb-true (length (split s)) n (not-false _ (or_false_right (misnamed letter (split s)) _ e))
 
   file_wide : (letter : ℕ) → RuledOut (area_and_year letter (split s)) → 6 ≤ length s
   unfolding area_and_year

@@ -1,1 +1,3 @@
+#![tactic(auto)]
+
 // Room for any listing. No code.

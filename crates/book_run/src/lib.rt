@@ -1,3 +1,5 @@
+#![tactic(auto)]
+
 // Runs the lines of a book, on one holding and one table, and puts what each prints, or the rows of its accepted S entries.
 ghost use Rattle.std.specs.Prelude.{◌≡◌, ◌≤◌, length, take};
 ghost use Rattle.table.specs.{longest_table};

@@ -1,1 +1,3 @@
+#![tactic(auto)]
+
 // What a call answers and writes, and the order of its parts. No code.

@@ -1,6 +1,6 @@
 -- What a call writes at most: its holding is kept, so that the statement and the report are no longer than their fields' widths; a table is shorter.
 -- With an output of that length a book run line by line through the call gives the listing of `book`.
-use Rattle.laws.proofs.{ℕ, ◌≤◌, ◌≡◌, ◌∙◌, true, not, List, [], arith, not_false, le-ltb, length, length-append}
+use Rattle.laws.proofs.{ℕ, ◌≤◌, ◌≡◌, ◌∙◌, true, not, List, [], arith, not-false, le-ltb, length, length-append}
 use Rattle.refusals.specs.{Refusal, Verdict}
 use Rattle.refusals.proofs.Laws.{clear_last}
 use Rattle.table.specs.{longest_table, is_table}
@@ -35,7 +35,7 @@ use Rattle.call_book.proofs.CallsList.{calls_print, calls_list_within}
 -- a table that is accepted is one
 pub table_is : (table : List ℕ) → table_verdict table ≡ Verdict.Accepted → is_table (numbers_of table) ≡ true
 unfolding table_verdict
-table_is table e = not_false _ (clear_last (decodable table longest_table) (not (is_table (numbers_of table))) Refusal.TableColumn e)
+table_is table e = not-false _ (clear_last (decodable table longest_table) (not (is_table (numbers_of table))) Refusal.TableColumn e)
 
 module _ (own : List ℕ) (holding : Holding) (is_own : is_table own ≡ true) (kept : Kept holding) (line : List ℕ) where
   entry-few : (entry : Entry) → (entry_taken own holding line entry).verdict ≡ Verdict.Accepted → length (entry_bytes own holding line entry) ≤ most_written

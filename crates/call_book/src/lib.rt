@@ -1,1 +1,3 @@
+#![tactic(auto)]
+
 // A book run line by line through the call. No code.

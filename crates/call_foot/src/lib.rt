@@ -1,3 +1,5 @@
+#![tactic(auto)]
+
 // The foot of a statement, for a recorder's own program.
 ghost use Rattle.std.specs.Prelude.{◌≡◌, length};
 ghost use Rattle.refusals.specs.{written, buffer_after};

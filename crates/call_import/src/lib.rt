@@ -1,3 +1,5 @@
+#![tactic(auto)]
+
 // A sheet imported by a recorder's own program, onto the holding that a statement carries.
 ghost use Rattle.std.specs.Prelude.{◌≡◌};
 ghost use Rattle.call_output.specs.{Gives};

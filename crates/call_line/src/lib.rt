@@ -1,3 +1,5 @@
+#![tactic(auto)]
+
 // The call of a recorder's own program: its verdict, and what it writes.
 ghost use Rattle.std.specs.Prelude.{◌≡◌, length, take, true};
 ghost use Rattle.refusals.specs.{written};

@@ -1,5 +1,5 @@
 -- What an accepted act does with the areas: it changes the one that was looked up, or it opens one behind them all.
-use Rattle.laws.proofs.{ℕ, ◌+◌, ◌<◌, ◌≡◌, refl, ap, ◌∙◌, true, false, List, ◌⊎◌, inl, inr, arith, not_false, leb-false}
+use Rattle.laws.proofs.{ℕ, ◌+◌, ◌<◌, ◌≡◌, refl, ap, ◌∙◌, true, false, List, ◌⊎◌, inl, inr, arith, not-false, leb-false}
 use Rattle.refusals.specs.{Verdict, Case, smallest}
 use Rattle.refusals.proofs.Laws.{RuledOut, ruled_out}
 use Rattle.line_entry.specs.{Act}
@@ -67,8 +67,8 @@ pub acted_places : (own default : List ℕ) (looked : Looked) (act : Act) → le
     → Moves looked outcome ⊎ Opens looked outcome
 unfolding added add_cases cleared clear_cases planted plant_cases filed file_cases withdrawn withdraw_cases area_cases
 acted_places own default looked (Act.Open opening) e = inr (opens looked opening e)
-acted_places own default looked (Act.Add sub land forest year) e = inl (moves looked _ _ _ (λ out. not_false (known looked.found) (out 4)) e)
-acted_places own default looked (Act.Clear sub year) e = inl (moves looked _ _ _ (λ out. not_false (known looked.found) (out 3)) e)
-acted_places own default looked (Act.Plant sub forest year) e = inl (moves looked _ _ _ (λ out. not_false (known looked.found) (out 4)) e)
-acted_places own default looked (Act.File last) e = inl (moves looked _ _ _ (λ out. not_false (known looked.found) (out 3)) e)
-acted_places own default looked Act.Withdraw e = inl (moves looked _ _ _ (λ out. not_false (known looked.found) (out 2)) e)
+acted_places own default looked (Act.Add sub land forest year) e = inl (moves looked _ _ _ (λ out. not-false (known looked.found) (out 4)) e)
+acted_places own default looked (Act.Clear sub year) e = inl (moves looked _ _ _ (λ out. not-false (known looked.found) (out 3)) e)
+acted_places own default looked (Act.Plant sub forest year) e = inl (moves looked _ _ _ (λ out. not-false (known looked.found) (out 4)) e)
+acted_places own default looked (Act.File last) e = inl (moves looked _ _ _ (λ out. not-false (known looked.found) (out 3)) e)
+acted_places own default looked Act.Withdraw e = inl (moves looked _ _ _ (λ out. not-false (known looked.found) (out 2)) e)

@@ -1,3 +1,5 @@
+#![tactic(auto)]
+
 // The calls of a recorder's own program: one takes a line by a statement and a table, one gives the foot of a statement, one adds the sub-areas of a sheet,
 // and one exports those of a book.
 ghost use Rattle.std.specs.Prelude.{◌≡◌, length};

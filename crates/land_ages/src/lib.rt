@@ -1,3 +1,5 @@
+#![tactic(auto)]
+
 // The age of a hectare by its type, from its tree groups, the first `count` of the array.
 ghost use Rattle.std.specs.Prelude.{◌≡◌, max, take};
 ghost use Rattle.land_groups.specs.{of_type};

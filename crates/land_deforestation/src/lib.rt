@@ -1,3 +1,5 @@
+#![tactic(auto)]
+
 // Deforestation of pre-1990 forest land: the emissions of parcels, the first `count` of the array.
 ghost use Rattle.std.specs.Prelude.{◌≡◌, ◌*◌, ◌≤◌, take};
 ghost use Rattle.refusals.specs.{smallest};

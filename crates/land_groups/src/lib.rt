@@ -1,3 +1,5 @@
+#![tactic(auto)]
+
 // The tree groups of one hectare: basal area by species, and the mean age of a type.
 // The groups are the first `count` of the array.
 ghost use Rattle.std.specs.Prelude.{◌≡◌, cond, ◌≤◌, take};

@@ -1,3 +1,5 @@
+#![tactic(auto)]
+
 // The forest type and the age of one hectare, from its tree groups.
 ghost use Rattle.std.specs.Prelude.{◌≡◌, take};
 ghost use Rattle.laws.specs.{some};

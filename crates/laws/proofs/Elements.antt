@@ -37,12 +37,14 @@ same_test false false f g = refl
 module _ {A : Type 0} (p : A → Bool) where
   pub none_passes : (a : A) (l : List A) → some p l ≡ false → Memᴰ a l → p a ≡ false
   unfolding some
+  none_passes a [] e m = elim m [ ]
   none_passes a (b ∷ l) e (Memᴰ.head q) = ap p q ∙ or_false_left (p b) (some p l) e
   none_passes a (b ∷ l) e (Memᴰ.tail m) = none_passes a l (or_false_right (p b) (some p l) e) m
 
   -- what is kept is listed and passes, and what is listed and passes is kept
   pub kept-listed : (a : A) (l : List A) → Memᴰ a (keep p l) → Memᴰ a l × (p a ≡ true)
   unfolding keep
+  kept-listed a [] m = elim m [ ]
   kept-listed a (b ∷ l) m = go (p b) refl m (kept-listed a l)
     where
       go : (t : Bool) → p b ≡ t → Memᴰ a (cond t (b ∷ keep p l) (keep p l)) → (Memᴰ a (keep p l) → Memᴰ a l × (p a ≡ true)) → Memᴰ a (b ∷ l) × (p a ≡ true)
@@ -52,6 +54,7 @@ module _ {A : Type 0} (p : A → Bool) where
 
   pub listed_kept : (a : A) (l : List A) → Memᴰ a l → p a ≡ true → Memᴰ a (keep p l)
   unfolding keep
+  listed_kept a [] m e = elim m [ ]
   listed_kept a (b ∷ l) (Memᴰ.head q) e = rw (← (ap p q), e) (Memᴰ.head q)
   listed_kept a (b ∷ l) (Memᴰ.tail m) e = go (p b) (listed_kept a l m e)
     where

@@ -1,4 +1,3 @@
-pub mod Calls
 pub mod Choosing
 pub mod Distinct
 pub mod Elements
@@ -21,4 +20,4 @@ pub use lib.ListN.{length, take, drop, get_or, set, replicate, length-take, leng
 pub use lib.Seq.{sets, drop-cons, drop-drop, take_all, take-suc, take-append_seam, get_or-take, get_or-drop, set_out}
 pub use lib.Dec.{eqb, ltb, leb, lit≤, lit<}
 pub use borrow.Author.Rules.{rules}
-pub use borrow.Author.Tests.{eqb-true, eqb-false, ltb-true, ltb-false, leb-true, leb-false, eq-eqb, ne_eqb, le-leb, lt-leb, le-ltb, lt-ltb, not-true, not_false}
+pub use borrow.Author.Tests.{eqb-true, eqb-false, ltb-true, ltb-false, leb-true, leb-false, eq-eqb, ne_eqb, le-leb, lt-leb, le-ltb, lt-ltb, not-true, not-false}

@@ -1,1 +1,3 @@
+#![tactic(auto)]
+
 // Laws of lists, tests and integers that the other crates cite. No code.

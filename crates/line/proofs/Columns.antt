@@ -1,6 +1,6 @@
 -- A line as a T line. One that is no T line, is too long or broken is refused under 1, and of any other its fields decide. A line that is read as a
 -- column is accepted as a T line, and the column is the one that its fields name: only T's rule makes a column.
-use Rattle.laws.proofs.{ℕ, suc, ◌≡◌, refl, sym, ap, ◌∙◌, Bool, true, false, not, cond, ◌||◌, List, ◌∷◌, arith, eqb, ltb, length, not_false}
+use Rattle.laws.proofs.{ℕ, suc, ◌≡◌, refl, sym, ap, ◌∙◌, Bool, true, false, not, cond, ◌||◌, List, ◌∷◌, arith, eqb, ltb, length, not-false}
 use Rattle.laws.proofs.Elements.{or_false_left}
 use Rattle.text.specs.{line_end, holds, split}
 use Rattle.refusals.specs.{Verdict, Case, ◌⇒◌, weighed, weigh_all, smallest, buffer_after, Refusal}
@@ -36,7 +36,7 @@ module _ (line s : List ℕ) (e : s ≡ body_of line) (letter : ℕ) (l : letter
   by_rule : (not (eqb letter 84) || ltb longest (length s)) || broken ≡ false → as_column line ≡ smallest (column_rule (split s)).cases
   unfolding line_rule rule_of
   by_rule t =
-      let named : eqb letter 84 ≡ true = not_false _ (or_false_left _ (ltb longest (length s)) (or_false_left _ broken t)) in
+      let named : eqb letter 84 ≡ true = not-false _ (or_false_left _ (ltb longest (length s)) (or_false_left _ broken t)) in
       rw (as_tested, t, ← l, named)
 
   pub column_line : (not (eqb letter 84) || ltb longest (length s)) || broken ≡ false → (read : ReadColumn) (kept out : List ℕ)
@@ -81,7 +81,7 @@ pub column_cases : (line : List ℕ) → as_column line ≡ Verdict.Accepted →
 unfolding as_column conditions line_rule rule_of
 column_cases line e i =
     let body = body_of line in
-    let named : eqb (letter_of body) 84 ≡ true = not_false _ (ruled_out _ e 0) in
+    let named : eqb (letter_of body) 84 ≡ true = not-false _ (ruled_out _ e 0) in
     rw named at (ruled_out _ e (suc (suc (suc i))))
 
 -- and a T line that is refused so is refused
@@ -104,6 +104,6 @@ pub column_entered : (line : List ℕ) → as_column line ≡ Verdict.Accepted �
 unfolding as_column entry_of line_rule rule_of column_rule parsed
 column_entered line e =
     let body = body_of line in
-    let named : eqb (letter_of body) 84 ≡ true = not_false _ (ruled_out _ e 0) in
+    let named : eqb (letter_of body) 84 ≡ true = not-false _ (ruled_out _ e 0) in
     let none = sym (first_passed (conditions body) _ (ap not named)) ∙ e in
     rw (none, named) refl

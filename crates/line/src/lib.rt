@@ -1,3 +1,5 @@
+#![tactic(auto)]
+
 // A line, with its end or without, to an entry or a refusal.
 ghost use Rattle.std.specs.Prelude.{◌≡◌, length};
 ghost use Rattle.refusals.specs.{buffer_after};

@@ -1,3 +1,5 @@
+#![tactic(auto)]
+
 // The entries of an accounting area: A opens it, R files a return, W withdraws it.
 ghost use Rattle.std.specs.Prelude.{◌≡◌};
 ghost use Rattle.text.specs.{split};

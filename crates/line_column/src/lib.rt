@@ -1,3 +1,5 @@
+#![tactic(auto)]
+
 // The T entry: a column of the participant's table.
 ghost use Rattle.std.specs.Prelude.{◌≡◌, ◌-◌, ◌≤◌, length};
 ghost use Rattle.std.proofs.lemmas.List.Edits.{sets};

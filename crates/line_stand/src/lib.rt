@@ -1,3 +1,5 @@
+#![tactic(auto)]
+
 // The entries of a sub-area's stand: C clears it, P plants it.
 ghost use Rattle.std.specs.Prelude.{◌≡◌};
 ghost use Rattle.text.specs.{split};

@@ -1,3 +1,5 @@
+#![tactic(auto)]
+
 // The entry of a sub-area: S adds it.
 ghost use Rattle.std.specs.Prelude.{◌≡◌};
 ghost use Rattle.text.specs.{split};

@@ -1,3 +1,5 @@
+#![tactic(auto)]
+
 // What the type that a line names allows.
 ghost use Rattle.std.specs.Prelude.{◌≡◌};
 ghost use Rattle.line_type.specs.{unlisted, unplantable, misdated_if, misdated, forest_of};

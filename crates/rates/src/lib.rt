@@ -1,3 +1,5 @@
+#![tactic(auto)]
+
 // The column consulted, the look-up of a cell by age, and the decay of residue.
 ghost use Rattle.std.specs.Prelude.{◌≡◌};
 ghost use Rattle.schedules.specs.{Kind, listed};

@@ -1,3 +1,5 @@
+#![tactic(auto)]
+
 // Exports the book on standard input as a sheet.
 use libc::{STDIN_FILENO, STDOUT_FILENO};
 use sheet_export::ROOM;

@@ -1,3 +1,5 @@
+#![tactic(auto)]
+
 // The export of a book, written into a lent buffer.
 ghost use Rattle.std.specs.Prelude.{◌≡◌, ◌≤◌, length};
 ghost use Rattle.refusals.specs.{written, buffer_after};

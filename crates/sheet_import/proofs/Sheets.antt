@@ -1,5 +1,5 @@
 -- A sheet is refused before its rows, or its rows behind the heading are taken: a sheet that is not refused has a first row.
-use Rattle.laws.proofs.{ℕ, zero, ◌+◌, ◌≤◌, ◌<◌, ◌≡◌, refl, sym, ap, ◌∙◌, true, false, not, List, [], ◌∷◌, ⊎_elim, arith, length, drop, not_false}
+use Rattle.laws.proofs.{ℕ, zero, ◌+◌, ◌≤◌, ◌<◌, ◌≡◌, refl, sym, ap, ◌∙◌, true, false, not, List, [], ◌∷◌, ⊎_elim, arith, length, drop, not-false}
 use Rattle.laws.proofs.Order.{below_or_not}
 use Rattle.refusals.specs.{Refusal, Verdict}
 use Rattle.refusals.proofs.Laws.{ruled_out}
@@ -22,7 +22,7 @@ module _ (own : List ℕ) (holding : Holding) (sheet : List ℕ) (v : Verdict) (
         ⊎_elim (λ h. h)
         (λ none.
         let rows = rows_none sheet 0 none in
-        let keeps : regular (rows_of sheet) ≡ true = not_false _ (ruled_out _ (sym e ∙ clear) 1) in
+        let keeps : regular (rows_of sheet) ≡ true = not-false _ (ruled_out _ (sym e ∙ clear) 1) in
         let z : ◌≡◌ {A = ℕ} 0 1 = cc in absurd (omega arith))
         (below_or_not 0 (length sheet))
 

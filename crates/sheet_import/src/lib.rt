@@ -1,3 +1,5 @@
+#![tactic(auto)]
+
 // Sub-areas of a sheet added to the holding of a statement, all of them or none.
 ghost use Rattle.std.specs.Prelude.{◌≡◌};
 ghost use Rattle.statement_field.specs.{Put};

@@ -1,3 +1,5 @@
+#![tactic(auto)]
+
 // What refuses a sheet before any of its rows is taken.
 ghost use Rattle.std.specs.Prelude.{◌≡◌, length, drop};
 ghost use Rattle.laws.specs.{every};

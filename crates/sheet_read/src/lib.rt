@@ -1,3 +1,5 @@
+#![tactic(auto)]
+
 // A sheet of comma-separated values under RFC 4180, read by its bytes: whether it is sound, and a row of it, its fields joined by commas.
 ghost use Rattle.std.specs.Prelude.{◌≡◌};
 ghost use Rattle.text.specs.{Wrote};

@@ -1,3 +1,5 @@
+#![tactic(auto)]
+
 // Rows of a sheet put into a lent buffer, each field quoted and each row ended by CR LF; the answer is the place after what was put.
 ghost use Rattle.std.specs.Prelude.{◌∷◌, [], ◌++◌};
 ghost use Rattle.text.specs.{comma, Wrote};

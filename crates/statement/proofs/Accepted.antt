@@ -1,6 +1,6 @@
 -- A statement is accepted just when its bytes are read to their end as a holding that passes the test `carried`; the answer is then that holding. So it
 -- is whatever the limits are.
-use Rattle.laws.proofs.{ℕ, ◌<◌, Bool, true, not, ◌&&◌, ◌≡◌, refl, ap, ◌∙◌, List, [], ◌∷◌, lt-ltb, eq-eqb, ltb-true, eqb-true, not_false, eqb, ltb, length}
+use Rattle.laws.proofs.{ℕ, ◌<◌, Bool, true, not, ◌&&◌, ◌≡◌, refl, ap, ◌∙◌, List, [], ◌∷◌, lt-ltb, eq-eqb, ltb-true, eqb-true, not-false, eqb, ltb, length}
 use Rattle.laws.proofs.Lists.{and_left, and_right}
 use Rattle.refusals.specs.{Verdict, ◌⇒◌, weighed, weigh_all, smallest, Refusal}
 use Rattle.refusals.proofs.Laws.{ruled_out}
@@ -25,7 +25,7 @@ module _ (most : Limits) (s : List ℕ) where
       let begun = ltb 0 read.next in
       let whole = eqb read.next (length s) in
       let kept = carried_within most read.holding in
-      let all = not_false _ (ruled_out (not (begun && whole && kept) ⇒ Refusal.CarriedStatement ∷ []) e 0) in
+      let all = not-false _ (ruled_out (not (begun && whole && kept) ⇒ Refusal.CarriedStatement ∷ []) e 0) in
       let bytes = and_left (begun && whole) kept all in
       record {
         started = ltb-true _ _ (and_left begun whole bytes);

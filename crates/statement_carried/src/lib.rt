@@ -1,3 +1,5 @@
+#![tactic(auto)]
+
 // What a holding keeps so that a statement carries it. A step tests the fields of the one area that it touches.
 ghost use Rattle.std.specs.Prelude.{◌≡◌, ◌≤◌};
 ghost use Rattle.holding.specs.{most_subs};

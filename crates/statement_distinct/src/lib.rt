@@ -1,3 +1,5 @@
+#![tactic(auto)]
+
 // Whether no number stands twice, and whether no two areas bear the same number.
 ghost use Rattle.std.specs.Prelude.{◌≡◌, ℕ, min, eqb, drop};
 ghost use Rattle.laws.specs.{some, distinct};

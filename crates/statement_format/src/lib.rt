@@ -1,1 +1,3 @@
+#![tactic(auto)]
+
 // The bytes of a carried statement. No code.

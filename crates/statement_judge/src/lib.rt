@@ -1,3 +1,5 @@
+#![tactic(auto)]
+
 // Whether a statement carries a holding.
 ghost use Rattle.std.specs.Prelude.{◌≡◌, max};
 ghost use Rattle.laws.specs.{every};

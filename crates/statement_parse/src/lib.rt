@@ -1,3 +1,5 @@
+#![tactic(auto)]
+
 // Reads a statement's lines as a holding, with the place after them. What the holding must keep is judged after it is read.
 ghost use Rattle.std.specs.Prelude.{◌≤◌, ◌≡◌};
 ghost use Rattle.holding.specs.{most_areas, most_subs};

@@ -1,3 +1,5 @@
+#![tactic(auto)]
+
 // One pass over a statement's bytes, area by area: whether it carries a holding, the area of a number, where that area's lines stand, and the units of
 // all areas. No holding is made.
 ghost use Rattle.std.specs.Prelude.{◌≡◌, ◌≤◌};

@@ -1,1 +1,3 @@
+#![tactic(auto)]
+
 // Where the parts of a statement stand in its bytes. No code.

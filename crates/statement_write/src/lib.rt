@@ -1,3 +1,5 @@
+#![tactic(auto)]
+
 // Writes a holding as a statement. One set of functions measures and writes, since a byte past a buffer's end is not stored.
 ghost use Rattle.std.specs.Prelude.{◌≡◌, ◌≤◌, length};
 ghost use Rattle.text.specs.{Wrote};

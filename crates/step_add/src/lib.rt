@@ -1,3 +1,5 @@
+#![tactic(auto)]
+
 // S adds a sub-area. Both tables are lent: the participant's, and the cells of Schedule 6.
 ghost use Rattle.std.specs.Prelude.{◌≡◌, ◌<◌, ◌*◌, ◌≤◌};
 ghost use Rattle.refusals.specs.{smallest};

@@ -1,3 +1,5 @@
+#![tactic(auto)]
+
 // C clears a sub-area: its trees become its residue.
 ghost use Rattle.std.specs.Prelude.{◌≡◌};
 ghost use Rattle.refusals.specs.{smallest};

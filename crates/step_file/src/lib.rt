@@ -1,3 +1,5 @@
+#![tactic(auto)]
+
 // R files a return: the change of the stock since the last, and the units received or due for it.
 // Both tables are lent: the participant's, and the cells of Schedule 6.
 ghost use Rattle.std.specs.Prelude.{◌≡◌, ◌≤◌, true};

@@ -1,3 +1,5 @@
+#![tactic(auto)]
+
 // A opens an accounting area.
 ghost use Rattle.std.specs.Prelude.{◌≡◌};
 ghost use Rattle.refusals.specs.{smallest};

@@ -1,3 +1,5 @@
+#![tactic(auto)]
+
 // What a step answers: the verdict, the report, and the one area that comes to stand at a place, of how many.
 ghost use Rattle.std.specs.Prelude.{◌≡◌};
 ghost use Rattle.refusals.specs.{weighed, weigh_all};

@@ -1,3 +1,5 @@
+#![tactic(auto)]
+
 // P plants a sub-area that has no trees.
 ghost use Rattle.std.specs.Prelude.{◌≡◌};
 ghost use Rattle.refusals.specs.{smallest};

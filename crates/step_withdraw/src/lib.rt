@@ -1,3 +1,5 @@
+#![tactic(auto)]
+
 // W withdraws an area: its whole balance is due.
 ghost use Rattle.std.specs.Prelude.{◌≡◌};
 ghost use Rattle.refusals.specs.{smallest};

@@ -1,3 +1,5 @@
+#![tactic(auto)]
+
 // The participant's table, judged.
 ghost use Rattle.std.specs.Prelude.{◌≡◌};
 ghost use Rattle.laws.specs.{each_at_most};

@@ -1,5 +1,5 @@
 -- The numbers of bytes, a number at a time as the loop goes, and what a clear verdict says of them.
-use Rattle.laws.proofs.{ℕ, suc, ◌+◌, ◌*◌, ◌/◌, ◌%◌, ◌<◌, ◌≤◌, ◌≡◌, refl, sym, ap, ◌∙◌, List, [], ◌∷◌, add-one, arith, length, get_or, set, drop, drop_of_length-le, drop-cons, sets, eqb-true, ltb-false, not_false}
+use Rattle.laws.proofs.{ℕ, suc, ◌+◌, ◌*◌, ◌/◌, ◌%◌, ◌<◌, ◌≤◌, ◌≡◌, refl, sym, ap, ◌∙◌, List, [], ◌∷◌, add-one, arith, length, get_or, set, drop, drop_of_length-le, drop-cons, sets, eqb-true, ltb-false, not-false}
 use Rattle.refusals.specs.{weigh_all, smallest, Refusal, Verdict}
 use Rattle.refusals.proofs.Laws.{clear_before, clear_last}
 use Rattle.table_bytes.specs.{numbers_of, decodable}
@@ -33,6 +33,6 @@ pub clear_decodable : (bytes : List ℕ) (room : ℕ) → decodable bytes room �
 unfolding decodable smallest weigh_all
 clear_decodable bytes room e =
     let before = clear_before _ _ Refusal.OutputShort e in (
-      eqb-true _ _ (not_false _ (clear_last Verdict.Accepted _ Refusal.TableColumn (clear_before _ _ Refusal.TableColumn before))),
+      eqb-true _ _ (not-false _ (clear_last Verdict.Accepted _ Refusal.TableColumn (clear_before _ _ Refusal.TableColumn before))),
       ltb-false _ _ (clear_last _ _ Refusal.OutputShort e),
     )

@@ -1,3 +1,5 @@
+#![tactic(auto)]
+
 // A table's bytes, read as its numbers.
 ghost use Rattle.std.specs.Prelude.{◌≡◌, ◌/◌, ◌%◌, ◌≤◌, length};
 ghost use Rattle.std.proofs.lemmas.List.Edits.{sets};

@@ -1,5 +1,5 @@
 -- A table that a T line extends stays a table: the column had no cells, so the sum of the lengths grows by as many cells as come behind.
-use Rattle.laws.proofs.{ℕ, ◌+◌, ◌≤◌, ◌<◌, true, ◌≡◌, sym, ap, ◌∙◌, List, ◌++◌, arith, length, get_or, set, take, drop, length-set, length-take, length-append, get_or-drop, leb-false, ltb-false, not_false}
+use Rattle.laws.proofs.{ℕ, ◌+◌, ◌≤◌, ◌<◌, true, ◌≡◌, sym, ap, ◌∙◌, List, ◌++◌, arith, length, get_or, set, take, drop, length-set, length-take, length-append, get_or-drop, leb-false, ltb-false, not-false}
 use native.Mathlib.Nat.{add-zero}
 use lib.Seq.{take_at, drop_at}
 use Rattle.laws.specs.{each_at_most, sum_of}
@@ -44,9 +44,9 @@ module _ (table : List ℕ) (column : ℕ) (cells : List ℕ) where
   unfolding extensible
   extended_table room e =
       let n = ruled_out _ e in
-      let k = columns_read table (not_false _ (n 0)) in
+      let k = columns_read table (not-false _ (n 0)) in
       let inside = leb-false _ _ (n 1) in
       let few = ltb-false _ _ (n 3) in
-      let low = not_false _ (n 4) in
-      let free = not_false _ (n 5) in
+      let low = not-false _ (n 4) in
+      let free = not-false _ (n 5) in
       columns_table (longer table column cells) (longer_columns k inside few low free)

@@ -1,5 +1,5 @@
 -- The longer table as it is stored: the table that stands with the column's length entered, then the column's cells.
-use Rattle.laws.proofs.{ℕ, ◌+◌, ◌<◌, ◌≤◌, ◌≡◌, sym, ap, ◌∙◌, true, List, ◌++◌, append_assoc, arith, length, set, take, drop, length-set, length-take, length-append, take-append-drop, sets, leb-true, leb-false, ltb-false, not_false}
+use Rattle.laws.proofs.{ℕ, ◌+◌, ◌<◌, ◌≤◌, ◌≡◌, sym, ap, ◌∙◌, true, List, ◌++◌, append_assoc, arith, length, set, take, drop, length-set, length-take, length-append, take-append-drop, sets, leb-true, leb-false, ltb-false, not-false}
 use lib.Seq.{set-append_left}
 use Rattle.laws.proofs.Lists.{and_left}
 use Rattle.laws.proofs.Stores.{stored-behind}
@@ -49,7 +49,7 @@ clear_extensible table column cells room e =
     let two = clear_before _ _ Refusal.TableColumn three in
     let one = clear_before _ _ Refusal.TableColumn two in
     record {
-      whole = columns_ten table (not_false _ (clear_last Verdict.Accepted _ Refusal.TableColumn one));
+      whole = columns_ten table (not-false _ (clear_last Verdict.Accepted _ Refusal.TableColumn one));
       in_range = leb-false _ _ (clear_last _ _ Refusal.TableColumn two);
       short = ltb-false _ _ (clear_last _ _ Refusal.TableColumn four);
       room_for = ltb-false _ _ (clear_last _ _ Refusal.OutputShort e);

@@ -1,3 +1,5 @@
+#![tactic(auto)]
+
 // A column that a T entry adds to the participant's table.
 ghost use Rattle.std.specs.Prelude.{◌≡◌, ◌++◌, ◌+◌, ◌<◌, ◌≤◌, length, take, drop};
 ghost use Rattle.std.proofs.lemmas.List.Edits.{sets};

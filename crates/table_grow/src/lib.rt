@@ -1,3 +1,5 @@
+#![tactic(auto)]
+
 // The participant's table longer by a T line's column, in place.
 ghost use Rattle.std.specs.Prelude.{◌≡◌, take, leb};
 ghost use Rattle.refusals.specs.{weighed, written, buffer_after};

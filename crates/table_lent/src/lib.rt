@@ -1,3 +1,5 @@
+#![tactic(auto)]
+
 // A participant's table as it is lent, its cells together with the length of each column, and a column's cells out of it.
 ghost use Rattle.std.specs.Prelude.{◌≡◌};
 ghost use Rattle.table_parts.specs.{cells_of};

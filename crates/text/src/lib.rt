@@ -1,3 +1,5 @@
+#![tactic(auto)]
+
 // A byte looked for, and bytes written into a lent buffer.
 // A byte past the buffer's end is not stored and the place moves on all the same, so that writing measures.
 ghost use Rattle.std.specs.Prelude.{◌≡◌, ◌∷◌, [], ◌+◌, ◌/◌, ◌%◌, ◌≤◌, ◌<◌, min, length, drop};

@@ -1,3 +1,5 @@
+#![tactic(auto)]
+
 // Numbers with a point, read from bytes: hectares and table cells.
 ghost use Rattle.std.specs.Prelude.{◌≡◌};
 ghost use Rattle.text_number.specs.{more};

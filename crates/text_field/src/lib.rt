@@ -1,3 +1,5 @@
+#![tactic(auto)]
+
 // Where the fields of a line stand, found in one scan, and a field as a part of its line.
 ghost use Rattle.std.specs.Prelude.{◌≡◌, set};
 ghost use Rattle.text.specs.{split};

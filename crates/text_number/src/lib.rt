@@ -1,3 +1,5 @@
+#![tactic(auto)]
+
 // Whole numbers of any length, read from bytes.
 ghost use Rattle.std.specs.Prelude.{◌≡◌};
 ghost use Rattle.text_number.specs.{append, more, number_in};

@@ -1,6 +1,6 @@
 -- A T line's column is the column that a look-up of its kind and type consults, and every other look-up consults the column that it did: the longer
 -- table has the line's cells under the column's number, and under every other number what the table had.
-use Rattle.laws.proofs.{ℕ, ◌<◌, ◌≡◌, refl, sym, ap, ◌∙◌, Bool, true, false, List, [], ◌∷◌, arith, eqb, leb-false, eqb-false, eqb-true, ne_eqb, not_false, length, replicate}
+use Rattle.laws.proofs.{ℕ, ◌<◌, ◌≡◌, refl, sym, ap, ◌∙◌, Bool, true, false, List, [], ◌∷◌, arith, eqb, leb-false, eqb-false, eqb-true, ne_eqb, not-false, length, replicate}
 use Rattle.laws.specs.{each_at_most}
 use Rattle.laws.proofs.Lists.{ceiling_at}
 use Rattle.refusals.specs.{Verdict}
@@ -34,7 +34,7 @@ extends : (table : List ℕ) (column : ℕ) (cells : List ℕ) (room : ℕ) → 
 unfolding extensible
 extends table column cells room e =
     let n = ruled_out _ e in
-    record { columns = columns_read table (not_false _ (n 0)); inside = leb-false _ _ (n 1); free = not_false _ (n 5); some = eqb-false _ _ (n 2) }
+    record { columns = columns_read table (not-false _ (n 0)); inside = leb-false _ _ (n 1); free = not-false _ (n 5); some = eqb-false _ _ (n 2) }
 
 -- no table yet is looked up as ten columns without cells
 nought : (number : ℕ) → length_of (replicate column_count 0) number ≡ 0

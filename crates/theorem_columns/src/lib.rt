@@ -1,1 +1,3 @@
+#![tactic(auto)]
+
 // The column that a T line adds, and the columns that look-ups then consult. No code.

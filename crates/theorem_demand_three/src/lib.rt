@@ -1,1 +1,3 @@
+#![tactic(auto)]
+
 // Demand 3 whole: entries and read-backs, against the plain ledger. No code.

@@ -1,7 +1,7 @@
 -- What a line of a book does to the holding, by cases: it stays, an area more stands at the end, or one area that stands is moved, by what is reported of it.
 -- A refused line and T leave the holding; an opening places its area behind those that stand; and every other act puts the area that it found back at its
 -- place.
-use Rattle.laws.proofs.{ℕ, ◌+◌, ◌<◌, true, ◌≡◌, refl, sym, List, [], ◌∷◌, ◌++◌, add-one, arith, not_false, leb-false, length, get_or, set, length-take, get_or-take}
+use Rattle.laws.proofs.{ℕ, ◌+◌, ◌<◌, true, ◌≡◌, refl, sym, List, [], ◌∷◌, ◌++◌, add-one, arith, not-false, leb-false, length, get_or, set, length-take, get_or-take}
 use Rattle.laws.proofs.Elements.{clash}
 use lib.Seq.{take-set-lt, take-suc-set}
 use Rattle.refusals.specs.{Case, smallest, Verdict}
@@ -135,10 +135,10 @@ module _ (holding : Holding) where
     acted_does : (n : ℕ) (act : Act) → Does holding (Parsed.Taken (Entry.On (on n act))) (acted own schedule6 (looked_up holding n) act)
     unfolding opened added add_cases added_area cleared clear_cases cleared_area planted plant_cases planted_area with_sub filed file_cases filed_area return_of withdrawn withdraw_cases withdrawn_area area_cases received_in due_in balance_in Names subs_added
     acted_does n (Act.Open opening) = opening_does kept n opening _ refl
-    acted_does n (Act.Add sub land forest year) = change_does n _ _ _ _ (λ e. not_false _ (ruled_out _ e 4)) (unreported _ _ _ refl refl refl refl)
-    acted_does n (Act.Clear sub year) = change_does n _ _ _ _ (λ e. not_false _ (ruled_out _ e 3)) (unreported _ _ _ refl refl refl (omega arith))
-    acted_does n (Act.Plant sub forest year) = change_does n _ _ _ _ (λ e. not_false _ (ruled_out _ e 4)) (unreported _ _ _ refl refl refl (omega arith))
-    acted_does n (Act.File last) = change_does n _ _ _ _ (λ e. not_false _ (ruled_out _ e 3)) (record {
+    acted_does n (Act.Add sub land forest year) = change_does n _ _ _ _ (λ e. not-false _ (ruled_out _ e 4)) (unreported _ _ _ refl refl refl refl)
+    acted_does n (Act.Clear sub year) = change_does n _ _ _ _ (λ e. not-false _ (ruled_out _ e 3)) (unreported _ _ _ refl refl refl (omega arith))
+    acted_does n (Act.Plant sub forest year) = change_does n _ _ _ _ (λ e. not-false _ (ruled_out _ e 4)) (unreported _ _ _ refl refl refl (omega arith))
+    acted_does n (Act.File last) = change_does n _ _ _ _ (λ e. not-false _ (ruled_out _ e 3)) (record {
       number = refl;
       names = refl;
       received = refl;
@@ -146,7 +146,7 @@ module _ (holding : Holding) where
       balance = refl;
       subs = omega arith;
     })
-    acted_does n Act.Withdraw = change_does n _ _ _ _ (λ e. not_false _ (ruled_out _ e 2)) (record {
+    acted_does n Act.Withdraw = change_does n _ _ _ _ (λ e. not-false _ (ruled_out _ e 2)) (record {
       number = refl;
       names = refl;
       received = omega arith;

@@ -1,1 +1,3 @@
+#![tactic(auto)]
+
 // The foot of a listing adds up with the sheet above it. No code.

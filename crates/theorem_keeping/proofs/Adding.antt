@@ -1,6 +1,6 @@
 -- Adding a sub-area gives the area one more, under a number that none of it bears, with trees planted by the opening and no residue; its stock is
 -- within what one more sub-area allows.
-use Rattle.laws.proofs.{ℕ, ◌+◌, ◌*◌, ◌≤◌, true, false, ◌&&◌, ◌≡◌, refl, List, arith, not_false, leb-false, ltb-false}
+use Rattle.laws.proofs.{ℕ, ◌+◌, ◌*◌, ◌≤◌, true, false, ◌&&◌, ◌≡◌, refl, List, arith, not-false, leb-false, ltb-false}
 use Rattle.laws.proofs.Lists.{and_right}
 use Rattle.laws.proofs.Elements.{clash}
 use Rattle.refusals.specs.{smallest, Verdict}
@@ -53,14 +53,14 @@ module _ (own : List ℕ) (table : is_table own ≡ true) where
         let room : area.count + 1 ≤ most_subs = omega (arith, leb-false most_subs area.count (out 7)) in
         let by-opening : planted ≤ area.opening = ltb-false area.opening planted (out 9) in
         let good : SubKept area.opening area.latest (new_sub sub land forest planted) = record {
-          number = and_right (is_area number) (is_sub sub) (not_false (is_area number && is_sub sub) (out 0));
-          land = not_false (is_land land) (out 1);
-          trees = not_false (is_planted forest planted) (out 2);
+          number = and_right (is_area number) (is_sub sub) (not-false (is_area number && is_sub sub) (out 0));
+          land = not-false (is_land land) (out 1);
+          trees = not-false (is_planted forest planted) (out 2);
           planted = omega arith;
           residue = no_residue_lem area.opening area.latest;
         } in
         record {
-          stands = not_false (known found) (out 4);
+          stands = not-false (known found) (out 4);
           number = refl;
           keeps = added_area_lem area (new_sub sub land forest planted) (out 6) room good;
         }

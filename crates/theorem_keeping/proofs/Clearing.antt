@@ -1,5 +1,5 @@
 -- A clearing leaves bare land and a residue of its year. The trees were planted from 1900 on and the year is at most 2199, so they are at most 299 years old.
-use Rattle.laws.proofs.{ℕ, ◌≤◌, true, false, ◌≡◌, refl, sym, ◌∙◌, arith, not_false}
+use Rattle.laws.proofs.{ℕ, ◌≤◌, true, false, ◌≡◌, refl, sym, ◌∙◌, arith, not-false}
 use Rattle.laws.proofs.Elements.{clash}
 use Rattle.refusals.specs.{smallest, Verdict}
 use Rattle.ranges.specs.{is_bare, is_year}
@@ -36,13 +36,13 @@ unfolding clear_cases area_cases cleared_area cleared_sub with_sub
 cleared-changes number sub year found area e =
     let out = ruled_out (clear_cases number sub year found area) e in
     let stand = find_sub area sub in
-    let in_range = not_false (is_year year) (out 1) in
+    let in_range = not-false (is_year year) (out 1) in
     let latest = not_before year area.open_year area.latest (out 7) in
     record {
-      stands = not_false (known found) (out 3);
+      stands = not-false (known found) (out 3);
       number = refl;
       keeps = λ k. sub-change_keeps area k sub (cleared_sub (sub_at area stand) year) year (record {
-        stands = not_false (known stand) (out 5);
+        stands = not-false (known stand) (out 5);
         ranged = in_range;
         grows = latest.1;
         number = refl;

@@ -1,6 +1,6 @@
 -- A return opens the year after its last one. The stock is the sub-areas' own; what is received is at most one return's limit more, and no more is due than
 -- the balance.
-use Rattle.laws.proofs.{ℕ, ◌+◌, ◌*◌, ◌≤◌, true, false, ◌≡◌, refl, sym, ◌∙◌, List, arith, not_false}
+use Rattle.laws.proofs.{ℕ, ◌+◌, ◌*◌, ◌≤◌, true, false, ◌≡◌, refl, sym, ◌∙◌, List, arith, not-false}
 use Rattle.laws.proofs.Elements.{clash}
 use Rattle.refusals.specs.{smallest, Verdict}
 use Rattle.units.specs.{Change}
@@ -65,9 +65,9 @@ filed-changes own table number last found area e =
     let out = ruled_out (file_cases number last found area) e in
     let latest = not_before last area.open_year area.latest (out 5) in
     record {
-      stands = not_false (known found) (out 3);
+      stands = not-false (known found) (out 3);
       number = refl;
-      keeps = λ k. filed_area_lem own table area k last (not_false (is_year last) (out 1)) latest.0 (out 4);
+      keeps = λ k. filed_area_lem own table area k last (not-false (is_year last) (out 1)) latest.0 (out 4);
     }
 
 pub filed_keeps : (own : List ℕ) → is_table own ≡ true → (holding : Holding) (number last : ℕ) → AreasKept holding

@@ -1,5 +1,5 @@
 -- An opening adds an area without sub-areas, under a number that no area bears.
-use Rattle.laws.proofs.{ℕ, true, ◌≡◌, refl, arith, not_false, leb-false}
+use Rattle.laws.proofs.{ℕ, true, ◌≡◌, refl, arith, not-false, leb-false}
 use Rattle.laws.specs.{distinct}
 use Rattle.refusals.specs.{smallest}
 use Rattle.ranges.specs.{is_area, is_year}
@@ -38,4 +38,4 @@ opened_keeps holding number opening kept =
     answer_has holding (accepted Report.Nothing (Found.At holding.count) _ (opened_area number opening)) AreasKept (smallest (open_cases (looked_up holding number) opening)) kept (λ e.
     let out = ruled_out (open_cases (looked_up holding number) opening) e in
     register_more kept (opened_area number opening) (unknown (find_area holding number) (out 3)) (leb-false _ _ (out 4))
-    (opened_area_lem number opening (not_false (is_area number) (out 0)) (not_false (is_year opening) (out 1))))
+    (opened_area_lem number opening (not-false (is_area number) (out 0)) (not-false (is_year opening) (out 1))))

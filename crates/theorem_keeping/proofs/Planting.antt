@@ -1,5 +1,5 @@
 -- A planting gives bare land trees of its year, which becomes the latest year; the residue stays.
-use Rattle.laws.proofs.{ℕ, ◌≤◌, true, false, ◌≡◌, refl, arith, not_false}
+use Rattle.laws.proofs.{ℕ, ◌≤◌, true, false, ◌≡◌, refl, arith, not-false}
 use Rattle.refusals.specs.{smallest, Verdict}
 use Rattle.forest.specs.{Forest}
 use Rattle.ranges.specs.{is_bare, is_year}
@@ -33,13 +33,13 @@ unfolding plant_cases area_cases planted_area planted_sub with_sub
 planted-changes number sub forest year found area e =
     let out = ruled_out (plant_cases number sub forest year found area) e in
     let stand = find_sub area sub in
-    let in_range = not_false (is_year year) (out 2) in
+    let in_range = not-false (is_year year) (out 2) in
     let latest = not_before year area.open_year area.latest (out 8) in
     record {
-      stands = not_false (known found) (out 4);
+      stands = not-false (known found) (out 4);
       number = refl;
       keeps = λ k. sub-change_keeps area k sub (planted_sub (sub_at area stand) forest year) year (record {
-        stands = not_false (known stand) (out 6);
+        stands = not-false (known stand) (out 6);
         ranged = in_range;
         grows = latest.1;
         number = refl;

@@ -1,5 +1,5 @@
 -- A withdrawal surrenders what is left, so that all that was received is surrendered.
-use Rattle.laws.proofs.{ℕ, ◌≤◌, ◌≡◌, refl, arith, not_false}
+use Rattle.laws.proofs.{ℕ, ◌≤◌, ◌≡◌, refl, arith, not-false}
 use Rattle.refusals.specs.{smallest, Verdict}
 use Rattle.holding.specs.{Area, Found, Holding}
 use Rattle.holding_look.specs.{known, looked_up}
@@ -27,7 +27,7 @@ withdrawn-changes : (number : ℕ) (found : Found) (area : Area) → smallest (w
 unfolding withdraw_cases area_cases withdrawn_area
 withdrawn-changes number found area e =
     let out = ruled_out (withdraw_cases number found area) e in
-    record { stands = not_false (known found) (out 2); number = refl; keeps = withdrawn_area_lem area }
+    record { stands = not-false (known found) (out 2); number = refl; keeps = withdrawn_area_lem area }
 
 pub withdrawn_keeps : (holding : Holding) (number : ℕ) → AreasKept holding → AreasKept (placed holding (withdrawn (looked_up holding number)))
 unfolding withdrawn

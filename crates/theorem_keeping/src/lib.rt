@@ -1,1 +1,3 @@
+#![tactic(auto)]
+
 // What entries reach, a statement carries. No code.

@@ -1,1 +1,3 @@
+#![tactic(auto)]
+
 // The plain ledger of document 01, by which demand 3 judges the engine. No code.

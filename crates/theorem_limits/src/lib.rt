@@ -1,1 +1,3 @@
+#![tactic(auto)]
+
 // Limits that are widened, and what stays. No code.

@@ -1,1 +1,3 @@
+#![tactic(auto)]
+
 // The parts of a book's listing, joined. No code.

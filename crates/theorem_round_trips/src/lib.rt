@@ -1,1 +1,3 @@
+#![tactic(auto)]
+
 // What is written reads back, and what is read writes back. No code.

@@ -1,1 +1,3 @@
+#![tactic(auto)]
+
 // Rows written and read again. No code.

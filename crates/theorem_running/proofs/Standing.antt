@@ -1,5 +1,5 @@
 -- A T line is accepted only while no area stands, and after an accepted act one stands: an opening adds one, and any other act found its own.
-use Rattle.laws.proofs.{ℕ, ◌+◌, ◌≤◌, true, ◌≡◌, refl, sym, List, arith, not_false, leb, leb-false}
+use Rattle.laws.proofs.{ℕ, ◌+◌, ◌≤◌, true, ◌≡◌, refl, sym, List, arith, not-false, leb, leb-false}
 use Rattle.laws.proofs.Elements.{clash}
 use Rattle.refusals.specs.{Refusal, Verdict}
 use Rattle.refusals.proofs.Laws.{clear_last, ruled_out}
@@ -45,11 +45,11 @@ module _ (holding : Holding) where
       → (let outcome = acted own schedule6 (looked_up holding n) act in outcome.verdict ≡ Verdict.Accepted → 1 ≤ (placed holding outcome).count)
   unfolding opened added add_cases cleared clear_cases planted plant_cases filed file_cases withdrawn withdraw_cases area_cases
   acted_stands own n (Act.Open opening) = opening_stands _ _
-  acted_stands own n (Act.Add sub land forest year) = change_stands n _ _ _ (λ e. not_false _ (ruled_out _ e 4))
-  acted_stands own n (Act.Clear sub year) = change_stands n _ _ _ (λ e. not_false _ (ruled_out _ e 3))
-  acted_stands own n (Act.Plant sub forest year) = change_stands n _ _ _ (λ e. not_false _ (ruled_out _ e 4))
-  acted_stands own n (Act.File last) = change_stands n _ _ _ (λ e. not_false _ (ruled_out _ e 3))
-  acted_stands own n Act.Withdraw = change_stands n _ _ _ (λ e. not_false _ (ruled_out _ e 2))
+  acted_stands own n (Act.Add sub land forest year) = change_stands n _ _ _ (λ e. not-false _ (ruled_out _ e 4))
+  acted_stands own n (Act.Clear sub year) = change_stands n _ _ _ (λ e. not-false _ (ruled_out _ e 3))
+  acted_stands own n (Act.Plant sub forest year) = change_stands n _ _ _ (λ e. not-false _ (ruled_out _ e 4))
+  acted_stands own n (Act.File last) = change_stands n _ _ _ (λ e. not-false _ (ruled_out _ e 3))
+  acted_stands own n Act.Withdraw = change_stands n _ _ _ (λ e. not-false _ (ruled_out _ e 2))
 
   pub act_stands : (own : List ℕ) (on : AreaAct) → (applied own schedule6 holding on).verdict ≡ Verdict.Accepted
       → 1 ≤ (placed holding (applied own schedule6 holding on)).count

@@ -1,6 +1,6 @@
 -- What an S entry looks at in an area, besides what every kept area has. Where one holding's areas look as another's would, had none of them filed or been
 -- withdrawn, both find the same areas, and an S entry that the other accepts the one accepts too.
-use Rattle.laws.proofs.{ℕ, ◌<◌, Bool, false, ◌≡◌, refl, sym, ap, ◌∙◌, List, [], ◌∷◌, ◌++◌, map, arith, leb-false, length, get_or, get_or-take, eqb-true, eqb, not_false}
+use Rattle.laws.proofs.{ℕ, ◌<◌, Bool, false, ◌≡◌, refl, sym, ap, ◌∙◌, List, [], ◌∷◌, ◌++◌, map, arith, leb-false, length, get_or, get_or-take, eqb-true, eqb, not-false}
 use Rattle.laws.proofs.Standing.{stood_more}
 use Rattle.holding.proofs.Stands.{found-same}
 use mathlib.Core.List.{map-map, map-append}
@@ -60,7 +60,7 @@ module _ (a b : Area) (e : view_of a ≡ unfiled b) where
           let carried_a = fields_carried_lem a kept_a.subs.room kept_a.fields in
           let carried_b = fields_carried_lem b kept_b.subs.room kept_b.fields in
           let withdrawn : b.withdrawn ≡ false = out 5 in
-          let filed : b.returns ≡ 0 = eqb-true b.returns 0 (not_false (eqb b.returns 0) (out 8)) in
+          let filed : b.returns ≡ 0 = eqb-true b.returns 0 (not-false (eqb b.returns 0) (out 8)) in
           let none : a.withdrawn ≡ false = ap (λ (v : View). v.withdrawn) e in
           let nought : a.returns ≡ 0 = ap (λ (v : View). v.returns) e in
           let opening : a.opening ≡ b.opening = ap (λ (v : View). v.opening) e in

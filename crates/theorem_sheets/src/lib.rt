@@ -1,1 +1,3 @@
+#![tactic(auto)]
+
 // An export that is imported gives the S entries back, and an import is steps of demand 3. No code.

@@ -1,3 +1,5 @@
+#![tactic(auto)]
+
 // The three units of the accounts, and the rounding to tenths of a hectare and to tonnes.
 // Products alone turn tenths of a hectare and tenths of a tonne per hectare into kilograms, and kilograms are added to kilograms alone.
 ghost use Rattle.std.specs.Prelude.{◌≡◌, ◌*◌, ◌≤◌};

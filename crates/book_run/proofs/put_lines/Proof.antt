@@ -1,6 +1,6 @@
 -- `book_run::put_lines` meets its contract. The loop's invariant: what the lines from here on print, put behind what was put, is what all print, their
 -- run is the run of all, they leave what all leave, and the numbers kept are those of the areas.
-use Rattle.laws.proofs.{ℕ, ◌+◌, ◌-◌, ◌*◌, ◌≤◌, ◌<◌, ◌≡◌, refl, sym, ap, ◌∙◌, true, ⊎_elim, List, arith, length, take, drop, length-map, not-true, not_false, needs}
+use Rattle.laws.proofs.{ℕ, ◌+◌, ◌-◌, ◌*◌, ◌≤◌, ◌<◌, ◌≡◌, refl, sym, ap, ◌∙◌, true, ⊎_elim, List, arith, length, take, drop, length-map, not-true, not-false, needs}
 use Rattle.laws.proofs.Standing.{as_long, map-set}
 use Rattle.text.specs.{greatest, line_end, Wrote}
 use Rattle.text.proofs.Widths.{end_inside}
@@ -49,7 +49,7 @@ abbrev book_of : tie.At-loop invariant-loop decreases-loop → List ℕ
 book_of l = (start_of l).args.book.now
 
 can_run : (l : tie.At-loop invariant-loop decreases-loop) → may_run_from (book_of l) (start_of l).args.next (start_of l).args.reached ≡ true
-can_run l = let tested = l.before.before.before.before.before.before in sym tested.before.may-run.ensures ∙ not_false _ tested.if1.false
+can_run l = let tested = l.before.before.before.before.before.before in sym tested.before.may-run.ensures ∙ not-false _ tested.if1.false
 
 -- as many places as there are
 long-table : (c : tie.Start invariant-loop decreases-loop) → length c.args.reached.table ≡ longest_table
@@ -65,7 +65,7 @@ loop-holds : tie.Need-loop-init invariant-loop decreases-loop
 loop-holds c =
     let tested = c.before.before.before.before.before in
     let a = tested.before.before.before.before in
-    (bounds _ _ _ _ _ (sym tested.before.may-run.ensures ∙ not_false _ tested.if1.false), long-table a, many_areas a, refl, λ o p w. w, refl, refl, c.before.Numbers-of.ensures, omega arith, omega arith, omega arith)
+    (bounds _ _ _ _ _ (sym tested.before.may-run.ensures ∙ not-false _ tested.if1.false), long-table a, many_areas a, refl, λ o p w. w, refl, refl, c.before.Numbers-of.ensures, omega arith, omega arith, omega arith)
 
 -- the line taken before the holding changes, the area looked up before it was taken, the line's end before that, and the loop's turn
 abbrev taken_of : tie.At-match2-branch invariant-loop decreases-loop → tie.After-take-line invariant-loop decreases-loop

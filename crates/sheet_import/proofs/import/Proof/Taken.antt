@@ -1,5 +1,5 @@
 -- The first half of `sheet_import::import`: the invariants of its four loops, the areas read and judged, and the rows taken.
-use Rattle.laws.proofs.{ℕ, ◌+◌, ◌-◌, ◌*◌, ◌<◌, ◌≤◌, ◌≡◌, refl, sym, ap, ◌∙◌, ⊎_elim, List, arith, length, take, drop, length-map, not-true, not_false}
+use Rattle.laws.proofs.{ℕ, ◌+◌, ◌-◌, ◌*◌, ◌<◌, ◌≤◌, ◌≡◌, refl, sym, ap, ◌∙◌, ⊎_elim, List, arith, length, take, drop, length-map, not-true, not-false}
 use Rattle.laws.proofs.Standing.{map-set}
 use Rattle.refusals.specs.{Refusal, Verdict}
 use Rattle.line_entry.specs.{Parsed, refused_by}
@@ -121,7 +121,7 @@ reads e =
     let n = e.before in
     let l = read_in n in
     let a = (start_of l).args in
-    reading.read_clear a.statement.now _ (head_is l) _ _ _ _ _ l.loop.inv n.before.before.before.loop-test.false (few l) _ n.numbers2.ensures (not_false _ e.if1.false)
+    reading.read_clear a.statement.now _ (head_is l) _ _ _ _ _ l.loop.inv n.before.before.before.loop-test.false (few l) _ n.numbers2.ensures (not-false _ e.if1.false)
 
 pub returns-2 : tie.Need-returns-2 Inv-loop μ_loop Inv-loop2 μ_loop2 Inv-loop3 μ_loop3 Inv-loop4 μ_loop4
 returns-2 c =
