@@ -8,7 +8,7 @@ use holding::Found;
 use line_entry::{Entry, Parsed};
 
 // The number of the area that a line names, 0 where it names none, and its place.
-#[derive(Drop)]
+#[derive(Clone, Copy)]
 pub struct Named {
     pub number: u16,
     pub found: Found,

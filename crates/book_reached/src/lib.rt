@@ -9,7 +9,7 @@ use holding::Holding;
 use table::LONGEST_TABLE;
 
 // What a book's lines have come to: the holding, the participant's table at the front of `table`, and how many lines were accepted and refused.
-#[derive(Drop)]
+#[derive(Clone, Copy)]
 pub struct Reached {
     pub holding: Holding,
     pub table: [u16; LONGEST_TABLE],

@@ -85,7 +85,7 @@ fn put_row(out: &mut [u8], at: usize, line: &[u8], parsed: Parsed, verdict: Verd
 
 // What lines that are run come to: the place after what was put, the place in the book of the line that comes next, and what the lines before it have
 // come to.
-#[derive(Drop)]
+#[derive(Clone, Copy)]
 pub struct Part {
     pub count: usize,
     pub next: usize,

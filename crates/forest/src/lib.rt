@@ -4,7 +4,7 @@
 ghost use Rattle.std.specs.Prelude.{◌≡◌};
 ghost use Rattle.forest.specs.{region_number, digit_of, letters_written, letter_names, region_names, named, order_of, same_type};
 
-#[derive(Drop)]
+#[derive(Clone, Copy)]
 pub enum Region {
     Auckland,
     BayOfPlenty,
@@ -18,7 +18,7 @@ pub enum Region {
 }
 
 // The type of a stand, or bare land. Only Pinus radiata carries a region.
-#[derive(Drop)]
+#[derive(Clone, Copy)]
 pub enum Forest {
     Bare,
     Radiata(Region),
@@ -29,19 +29,20 @@ pub enum Forest {
 }
 
 // What letters name.
-#[derive(Drop)]
+#[derive(Clone, Copy)]
 pub enum Named {
     Listed(Forest),
     Unlisted,
 }
 
 // The letters of a type: the first `len` bytes.
-#[derive(Drop)]
+#[derive(Clone, Copy)]
 pub struct Letters {
     pub len: usize,
     pub bytes: [u8; 2],
 }
 
+#[tactic(auto, unfolding(crate::specs::Types::letter_names, crate::specs::Types::beside))]
 fn letter_names(letter: u8) -> Named
     ensures { result ≡ letter_names letter }
 {
@@ -55,6 +56,7 @@ fn letter_names(letter: u8) -> Named
     }
 }
 
+#[tactic(auto, unfolding(crate::specs::Types::region_names, crate::specs::Types::beside))]
 fn region_names(digit: u8) -> Named
     ensures { result ≡ region_names digit }
 {

@@ -13,7 +13,7 @@ pub const MOST_AREAS: usize = 16;
 pub const MOST_SUBS: usize = 48;
 
 // What is left of the latest clearing: the type and age of the trees cleared, and the year. Bare land where there is none.
-#[derive(Drop)]
+#[derive(Clone, Copy)]
 pub struct Residue {
     pub forest: Forest,
     pub age: u16,
@@ -21,7 +21,7 @@ pub struct Residue {
 }
 
 // A sub-area, its fields so wide and in such an order that they leave no room between or behind them.
-#[derive(Drop)]
+#[derive(Clone, Copy)]
 pub struct Sub {
     pub tenths: Tenths,
     pub planted: u16,
@@ -44,7 +44,7 @@ pub const EMPTY_SUB: Sub = Sub {
 };
 
 // An accounting area. The stock is the last closing stock, or the opening stock before the first return.
-#[derive(Drop)]
+#[derive(Clone, Copy)]
 pub struct Area {
     pub number: u16,
     pub opening: u16,
@@ -60,14 +60,14 @@ pub struct Area {
 }
 
 // The first `count` areas stand; the other places hold the empty area.
-#[derive(Drop)]
+#[derive(Clone, Copy)]
 pub struct Holding {
     pub count: usize,
     pub areas: [Area; MOST_AREAS],
 }
 
 // A place in a list, if there is one.
-#[derive(Drop)]
+#[derive(Clone, Copy)]
 pub enum Found {
     At(usize),
     Nowhere,

@@ -40,7 +40,7 @@ fn area_at(holding: Holding, found: Found) -> Area
 }
 
 // An area looked up: the number looked for, how many areas stand, where it was found, and the area, the empty one where there is none.
-#[derive(Drop)]
+#[derive(Clone, Copy)]
 pub struct Looked {
     pub number: u16,
     pub count: usize,
@@ -62,7 +62,7 @@ pub fn look_up(holding: Holding, number: u16) -> Looked
 }
 
 // Where a sub-area stands, and the sub-area, the empty one where there is none.
-#[derive(Drop)]
+#[derive(Clone, Copy)]
 pub struct Stand {
     pub found: Found,
     pub sub: Sub,
@@ -102,7 +102,7 @@ pub fn find_stand(area: Area, number: u16) -> Stand
 }
 
 // Units of one area or of many.
-#[derive(Drop)]
+#[derive(Clone, Copy)]
 pub struct Units {
     pub received: u64,
     pub surrendered: u64,

@@ -14,7 +14,7 @@ pub const LEAST_AGE: u16 = 9;
 // How many years before another a clearing counts.
 const WINDOW: u32 = 9;
 
-#[derive(Drop)]
+#[derive(Clone, Copy)]
 pub struct Clearing {
     pub forest: Forest,
     pub planted: u16,

@@ -11,7 +11,7 @@ use units::Kilograms;
 
 pub const MOST_PARCELS: usize = 64;
 
-#[derive(Drop)]
+#[derive(Clone, Copy)]
 pub enum Emissions {
     Tonnes(u64),
     Turned(Refusal),

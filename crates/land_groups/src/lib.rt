@@ -10,7 +10,7 @@ use forest::Forest;
 pub const MOST_GROUPS: usize = 64;
 
 // Trees of one species, type and age, and their basal area in cm².
-#[derive(Drop)]
+#[derive(Clone, Copy)]
 pub struct Group {
     pub species: u16,
     pub forest: Forest,
@@ -19,7 +19,7 @@ pub struct Group {
 }
 
 // The basal area of groups, and the sum of their ages times their basal areas.
-#[derive(Drop)]
+#[derive(Clone, Copy)]
 struct Weights {
     area: u64,
     age: u64,

@@ -8,7 +8,7 @@ use forest::Forest;
 use land_clearings::{Clearing, MOST_EARLIER};
 
 // Hectares are ten-thousandths; the earlier clearings are the first `count`.
-#[derive(Drop)]
+#[derive(Clone, Copy)]
 pub struct Parcel {
     pub hectares: u32,
     pub forest: Forest,
@@ -19,7 +19,7 @@ pub struct Parcel {
 }
 
 // What is wrong with a parcel.
-#[derive(Drop)]
+#[derive(Clone, Copy)]
 pub struct Faults {
     pub bare: bool,
     pub hectares: bool,
@@ -29,7 +29,7 @@ pub struct Faults {
 }
 
 // What is wrong with some clearing of a parcel.
-#[derive(Drop)]
+#[derive(Clone, Copy)]
 struct Amiss {
     bare: bool,
     years: bool,

@@ -15,21 +15,21 @@ const OLDEST_TREES: u16 = 300;
 // In cm².
 const MOST_BASAL_AREA: u32 = 1000000;
 
-#[derive(Drop)]
+#[derive(Clone, Copy)]
 pub enum Hectare {
     Of { forest: Forest, age: u16 },
     Turned(Refusal),
 }
 
 // The groups of a list, as many as the places hold, and whether any of the whole list is bare land.
-#[derive(Drop)]
+#[derive(Clone, Copy)]
 struct Gathered {
     groups: [Group; MOST_GROUPS],
     bare: bool,
 }
 
 // What is wrong with some group of a list.
-#[derive(Drop)]
+#[derive(Clone, Copy)]
 struct Faults {
     out_of_range: bool,
     two_types: bool,

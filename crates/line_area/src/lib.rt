@@ -10,7 +10,7 @@ use line_entry::{Act, AreaAct, Entry, Parsed};
 use refusals::Verdict;
 
 // The fields of A and of R: what refuses them, and the area and the year.
-#[derive(Drop)]
+#[derive(Clone, Copy)]
 struct AreaAndYear {
     verdict: Verdict,
     area: u16,

@@ -7,7 +7,7 @@ ghost use Rattle.text.specs.{split};
 ghost use Rattle.line_cells.specs.{cells_found, tenths_all};
 
 // Whether a cell is malformed, and whether one is over the greatest.
-#[derive(Drop)]
+#[derive(Clone, Copy)]
 pub struct Cells {
     pub malformed: bool,
     pub over: bool,

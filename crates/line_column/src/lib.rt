@@ -16,7 +16,7 @@ use refusals::{Refusal, Verdict};
 use text_field::Places;
 
 // A column read out: its number, and how many cells it has; neither where the line is refused.
-#[derive(Drop)]
+#[derive(Clone, Copy)]
 pub struct ReadColumn {
     pub verdict: Verdict,
     pub column: usize,

@@ -15,7 +15,7 @@ use text_number::Number;
 use units::Tenths;
 
 // What an entry does to the accounting area that it names: A, S, C, P, R and W.
-#[derive(Drop)]
+#[derive(Clone, Copy)]
 pub enum Act {
     Open {
         opening: u16,
@@ -41,21 +41,21 @@ pub enum Act {
     Withdraw,
 }
 
-#[derive(Drop)]
+#[derive(Clone, Copy)]
 pub struct AreaAct {
     pub area: u16,
     pub act: Act,
 }
 
 // T names a column of the participant's table, 0 to 9; its cells stay in the line. Every other entry is an act on an area.
-#[derive(Drop)]
+#[derive(Clone, Copy)]
 pub enum Entry {
     Column { column: usize },
     On(AreaAct),
 }
 
 // What a line says.
-#[derive(Drop)]
+#[derive(Clone, Copy)]
 pub enum Parsed {
     Taken(Entry),
     Refused(Refusal),

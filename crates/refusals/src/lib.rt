@@ -4,7 +4,7 @@
 ghost use Rattle.std.specs.Prelude.{◌≡◌};
 ghost use Rattle.refusals.specs.{number_of, weighed, smaller};
 
-#[derive(Drop)]
+#[derive(Clone, Copy)]
 pub enum Refusal {
     Form,
     AreaOrSubNumber,
@@ -35,14 +35,14 @@ pub enum Refusal {
 }
 
 // Nothing has applied so far, or a refusal has.
-#[derive(Drop)]
+#[derive(Clone, Copy)]
 pub enum Verdict {
     Accepted,
     Refused(Refusal),
 }
 
 // How many bytes or numbers were written, or why none were.
-#[derive(Drop)]
+#[derive(Clone, Copy)]
 pub enum Written {
     Count(usize),
     Refused(Refusal),
@@ -82,6 +82,7 @@ pub fn number(refusal: Refusal) -> u8
 }
 
 // The verdict so far, or the refusal where none has applied and this one does.
+#[tactic(auto, unfolding(crate::specs::Refusals::weighed))]
 pub fn weigh(so_far: Verdict, applies: bool, refusal: Refusal) -> Verdict
     ensures { result ≡ weighed so_far applies refusal }
 {

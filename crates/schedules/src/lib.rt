@@ -9,14 +9,14 @@ use forest::Forest;
 mod cells;
 
 // What a column lists: the carbon stock of trees, or the residue of cleared trees.
-#[derive(Drop)]
+#[derive(Clone, Copy)]
 pub enum Kind {
     Stock,
     Residue,
 }
 
 // Where a column stands among a schedule's cells, and its first listed age.
-#[derive(Drop)]
+#[derive(Clone, Copy)]
 pub struct Place {
     pub start: usize,
     pub len: usize,

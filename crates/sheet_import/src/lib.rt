@@ -16,7 +16,7 @@ use statement_parse::AREAS_READ;
 const LINE_ROOM: usize = line::LONGEST + 1;
 
 // What the row at a place is read as, and the place of the next row.
-#[derive(Drop)]
+#[derive(Clone, Copy)]
 struct RowRead {
     parsed: Parsed,
     next: usize,

@@ -13,7 +13,7 @@ const LINE_FEED: u8 = b'\n';
 
 // Where a reader stands between two bytes: before a row, before a field, in a field without quotes, in a quoted one, behind a quote in it, behind CR, or
 // nowhere any more.
-#[derive(Drop)]
+#[derive(Clone, Copy)]
 pub enum Reading {
     RowStart,
     FieldStart,
@@ -25,7 +25,7 @@ pub enum Reading {
 }
 
 // What a byte is: nothing of a field, a field's own, the end of a field, or the end of a row.
-#[derive(Drop)]
+#[derive(Clone, Copy)]
 pub enum Mark {
     Pass,
     Keep,
@@ -34,7 +34,7 @@ pub enum Mark {
 }
 
 // A row that was put: the place behind it in the sheet, how many fields it has, and the place after what was put.
-#[derive(Drop)]
+#[derive(Clone, Copy)]
 pub struct JoinedRow {
     pub next: usize,
     pub fields: usize,

@@ -8,7 +8,7 @@ use holding::Holding;
 use refusals::{Refusal, Verdict};
 
 // Where a statement is turned back the holding is the empty one.
-#[derive(Drop)]
+#[derive(Clone, Copy)]
 pub struct Read {
     pub verdict: Verdict,
     pub holding: Holding,

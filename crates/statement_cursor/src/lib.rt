@@ -7,20 +7,20 @@ ghost use Rattle.statement_cursor.specs.{Leads, Stops, number_at, type_at, start
 
 use forest::{Forest, Named};
 
-#[derive(Drop)]
+#[derive(Clone, Copy)]
 pub struct NumberField {
     pub value: u64,
     pub next: usize,
 }
 
-#[derive(Drop)]
+#[derive(Clone, Copy)]
 pub struct TypeField {
     pub forest: Forest,
     pub next: usize,
 }
 
 // The digits that stand from a place on: their number, and the place of the byte that stopped them.
-#[derive(Drop)]
+#[derive(Clone, Copy)]
 struct Digits {
     value: u64,
     stop: usize,

@@ -22,20 +22,20 @@ const MOST32: u64 = 4294967295;
 
 const MOST_READ: u64 = 999999999999999;
 
-#[derive(Drop)]
+#[derive(Clone, Copy)]
 pub struct ResidueRead {
     pub residue: Residue,
     pub next: usize,
 }
 
-#[derive(Drop)]
+#[derive(Clone, Copy)]
 pub struct SubRead {
     pub sub: Sub,
     pub next: usize,
 }
 
 // The sub-areas of an area, as the definitions have them.
-#[derive(Drop)]
+#[derive(Clone, Copy)]
 pub struct YearsRead {
     pub number: u16,
     pub opening: u16,
@@ -44,7 +44,7 @@ pub struct YearsRead {
     pub next: usize,
 }
 
-#[derive(Drop)]
+#[derive(Clone, Copy)]
 pub struct AmountsRead {
     pub withdrawn: bool,
     pub returns: u16,
@@ -54,19 +54,19 @@ pub struct AmountsRead {
     pub next: usize,
 }
 
-#[derive(Drop)]
+#[derive(Clone, Copy)]
 pub struct AreaRead {
     pub area: Area,
     pub next: usize,
 }
 
-#[derive(Drop)]
+#[derive(Clone, Copy)]
 pub struct AreasRead {
     pub areas: [Area; MOST_AREAS],
     pub next: usize,
 }
 
-#[derive(Drop)]
+#[derive(Clone, Copy)]
 pub struct HoldingRead {
     pub holding: Holding,
     pub next: usize,

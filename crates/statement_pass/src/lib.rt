@@ -13,7 +13,7 @@ use statement_parse::AREAS_READ;
 
 // What a pass over the areas finds: whether a statement carries each, their numbers, the one looked for with the places where its lines start and
 // end, the units of all where each is carried, and the place after the last.
-#[derive(Drop)]
+#[derive(Clone, Copy)]
 struct AreasPassed {
     kept: bool,
     numbers: [u16; MOST_AREAS],
@@ -79,7 +79,7 @@ fn pass_areas(s: &[u8], at: usize, count: usize, number: u16) -> AreasPassed
 
 // What a pass over a statement finds: whether it carries a holding, the area looked up, the places after its first line and where the area's lines
 // start and end, and the units of all areas. Where a statement is turned back, no area stands.
-#[derive(Drop)]
+#[derive(Clone, Copy)]
 pub struct Passed {
     pub verdict: Verdict,
     pub looked: Looked,

@@ -55,7 +55,7 @@ fn due(change: Change, balance: u64) -> u64
 }
 
 // What a return reports, and the area after it.
-#[derive(Drop)]
+#[derive(Clone, Copy)]
 struct Settled {
     report: Report,
     area: Area,

@@ -10,7 +10,7 @@ use refusals::{Refusal, Verdict};
 use units::Change;
 
 // What a return reports: its area, years and change, the units received and due, and the balance.
-#[derive(Drop)]
+#[derive(Clone, Copy)]
 pub struct Filed {
     pub area: u16,
     pub first: u16,
@@ -22,7 +22,7 @@ pub struct Filed {
 }
 
 // What is reported of an area: a return, or the units due on withdrawal.
-#[derive(Drop)]
+#[derive(Clone, Copy)]
 pub enum Report {
     Nothing,
     Return(Filed),
@@ -30,7 +30,7 @@ pub enum Report {
 }
 
 // Where a step is turned back there is no place, and the area is the empty one.
-#[derive(Drop)]
+#[derive(Clone, Copy)]
 pub struct Outcome {
     pub verdict: Verdict,
     pub report: Report,

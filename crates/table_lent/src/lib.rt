@@ -7,7 +7,7 @@ ghost use Rattle.table_lent.specs.{lent_column, lent_lengths, own_column};
 
 use table_parts::COLUMNS;
 
-#[derive(Drop)]
+#[derive(Clone, Copy)]
 pub struct LentTable<'a> {
     pub cells: &'a [u16],
     pub lengths: [u16; COLUMNS],

@@ -7,7 +7,7 @@ ghost use Rattle.text_field.specs.{places_of, part};
 
 // How many fields there are, and where each of the first six starts and the one behind it does.
 // Behind the last field another would start past the line's end.
-#[derive(Drop)]
+#[derive(Clone, Copy)]
 pub struct Places {
     pub count: usize,
     pub starts: [usize; 7],

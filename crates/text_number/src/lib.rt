@@ -5,7 +5,7 @@ ghost use Rattle.std.specs.Prelude.{◌≡◌};
 ghost use Rattle.text_number.specs.{append, more, number_in};
 
 // What bytes stand for; a number of more than fifteen digits has no value here.
-#[derive(Drop)]
+#[derive(Clone, Copy)]
 pub enum Number {
     Value(u64),
     Large,
@@ -16,6 +16,7 @@ pub enum Number {
 const ROOM: u64 = 100000000000000;
 
 // A number with one byte behind its digits.
+#[tactic(auto, unfolding(crate::specs::Numbers::append))]
 pub fn append(number: Number, byte: u8) -> Number
     ensures { result ≡ append number byte }
 {

@@ -6,18 +6,18 @@ ghost use Rattle.std.specs.Prelude.{◌≡◌, ◌*◌, ◌≤◌};
 ghost use Rattle.units.specs.{tenths_of, trees_of, residue_of, no_kilograms, plus, tonnes, change_between};
 
 // Tenths of a hectare.
-#[derive(Drop)]
+#[derive(Clone, Copy)]
 pub struct Tenths(pub u32);
 
 // Tenths of a tonne of carbon dioxide per hectare.
-#[derive(Drop)]
+#[derive(Clone, Copy)]
 pub struct Rate(pub u16);
 
-#[derive(Drop)]
+#[derive(Clone, Copy)]
 pub struct Kilograms(pub u64);
 
 // A change of carbon stock in tonnes.
-#[derive(Drop)]
+#[derive(Clone, Copy)]
 pub enum Change {
     Gain(u64),
     Loss(u64),
