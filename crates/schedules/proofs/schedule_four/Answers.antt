@@ -1,11 +1,8 @@
 -- `schedules::schedule_four` meets its contract: the constant's cells are the joined columns', which antt computes.
 use Rattle.laws.proofs.{refl}
 use Rattle.schedules.specs.{joined, stock4, schedule4}
-use Rattle.schedules.proofs.schedule_four.Tie as tie
+use Rattle.schedules.proofs.schedule_four.Goals as goal
 
-returns : tie.Need-returns
+pub returns : goal.returns
 unfolding schedule4 joined stock4
 returns c = refl
-
-pub schedule-four-spec : {M : Type 1} → Rattle.schedules.proofs.schedule_four.Statement.statement M
-schedule-four-spec = tie.close (tie.spec returns)
