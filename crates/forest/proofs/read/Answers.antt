@@ -14,4 +14,3 @@ returns-then-letters-eq2 c = no_radiata _ c.if-letters-eq2.true c.if-letters-eq8
 
 pub returns : goal.returns
 returns c = no_letters _ c.if-letters-eq1.false c.if-letters-eq2.false
-

@@ -1,5 +1,5 @@
 -- `text::end_of` meets its contract. The loop's invariant: the byte, seen from `end`, is where it was at the start.
-use Rattle.laws.proofs.{◌-◌, arith}
+use Rattle.laws.proofs.{arith}
 use Rattle.text.proofs.Widths.{end_later, end_here, end_last}
 use Rattle.text.proofs.end_of.Goals as goal
 

@@ -1,5 +1,5 @@
 -- `text::store` meets its contract. The loop's invariant: storing what is left stores all.
-use Rattle.laws.proofs.{◌-◌, arith}
+use Rattle.laws.proofs.{arith}
 use Rattle.laws.proofs.Stores.{storing_none, storing_more, storing_all}
 use Rattle.text.proofs.store.Goals as goal
 

@@ -24,4 +24,3 @@ pub returns : goal.returns
 returns c = let r = c in
     rw (c.zeros-2.ensures, c.more-digits.ensures)
     (with_decimals_lem _ _ _ _ r.end_of-end.ensures r.read-whole.ensures c.if-bytes-end.false c.if-count-eq0.false c.if-places-count.false)
-

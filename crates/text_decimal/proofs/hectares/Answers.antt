@@ -8,4 +8,3 @@ returns-then-end_of-gt6 c = seven_digits _ (omega (arith, c.end_of.ensures))
 
 pub returns : goal.returns
 returns c = c.decimal.ensures ∙ six_digits _ (omega (arith, c.end_of.ensures))
-

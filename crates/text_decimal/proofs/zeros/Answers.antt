@@ -8,4 +8,3 @@ loop-left-preserved c = rw c.append-n.ensures (zeros-next _ _ c.loop-left-test.t
 
 pub returns : goal.returns
 returns c = sym (zeros_end _ _ c.loop-left-test.false) ∙ c.loop-left.invariant
-

@@ -1,6 +1,6 @@
 -- `text_field::scan` meets its contract. The line scan's invariant: what is noted so far, with the starts from here on, are all the starts, and so for the
 -- count; the field scan's: the end of the field, seen from i, is where it was at the field's start.
-use Rattle.laws.proofs.{ℕ, List, ◌+◌, ◌-◌, ◌≤◌, ◌<◌, ◌≡◌, ◌∙◌, arith, length, drop}
+use Rattle.laws.proofs.{ℕ, List, ◌+◌, ◌≤◌, ◌≡◌, ◌∙◌, arith, length, drop}
 use Rattle.text.specs.{comma, width_to, split}
 use Rattle.text.proofs.Widths.{end_later, end_here, end_last}
 use Rattle.text_field.specs.{places_of}

@@ -1,5 +1,5 @@
 -- `text_number::more` meets its contract. The loop's invariant: the bytes that are left make of n what all of them make of the number.
-use Rattle.laws.proofs.{◌-◌, sym, ◌∙◌, arith}
+use Rattle.laws.proofs.{sym, ◌∙◌, arith}
 use Rattle.text_number.proofs.Laws.{more-next, more_end}
 use Rattle.text_number.proofs.more.Goals as goal
 
@@ -10,4 +10,3 @@ loop-i-preserved c =
 
 pub returns : goal.returns
 returns c = sym (more_end _ _ _ c.loop-i-test.false) ∙ c.loop-i.invariant.1
-

@@ -14,4 +14,3 @@ returns-then-bytes-eq48 c = zero_in_front _ (omega arith) c.if-bytes-eq48.true
 
 pub returns : goal.returns
 returns c = c.more-2.ensures ∙ several_read _ (omega arith) c.if-bytes-eq48.false
-

@@ -7,4 +7,3 @@ returns-then-is_outside c = not_fitted _ _ _ c.is_outside.ensures c.if-is_outsid
 
 pub returns : goal.returns
 returns c = fits _ _ _ _ c.is_outside.ensures c.if-is_outside.false c.value.ensures
-

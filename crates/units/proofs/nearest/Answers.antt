@@ -6,4 +6,3 @@ use Rattle.units.proofs.nearest.Goals as goal
 pub returns : goal.returns
 unfolding tonnes
 returns c = omega arith
-

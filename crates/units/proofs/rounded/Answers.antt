@@ -9,4 +9,3 @@ returns c =
     let n = c.args.ten_thousandths in
     let e : n / 1000 + n % 1000 / 500 ≡ (n + 500) / 1000 = omega arith in
     λ i. record { 0 = e i }
-

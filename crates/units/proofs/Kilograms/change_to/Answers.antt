@@ -10,4 +10,3 @@ returns-then-opening-closing c = simp (c.nearest.ensures, le-leb _ _ c.if-openin
 pub returns : goal.returns
 unfolding change_between
 returns c = simp (c.nearest-2.ensures, lt-leb _ _ c.if-opening-closing.false)
-

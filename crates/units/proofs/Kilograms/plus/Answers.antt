@@ -14,4 +14,3 @@ unfolding plus
 returns c =
     let adds : c.args.self.0 + c.args.more.0 ≡ min (c.args.self.0 + c.args.more.0) most_kilograms = omega (arith, c.if-stock-other.false) in
     λ i. record { 0 = adds i }
-

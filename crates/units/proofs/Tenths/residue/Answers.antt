@@ -9,4 +9,3 @@ unfolding residue_of
 returns c =
     let a = c.args in
     (search rules, omega (arith, stock-fits a.self.0 a.rate.0 a.share (omega arith) (omega arith) (omega arith)))
-

@@ -9,4 +9,3 @@ unfolding trees_of
 returns c =
     let a = c.args in
     (search rules, omega (arith, product_fits a.self.0 a.rate.0 (omega arith) (omega arith)))
-
