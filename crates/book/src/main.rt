@@ -1,8 +1,8 @@
+// Lists the book on standard input, a part at a time.
 #![tactic(auto)]
 
-// Lists the book on standard input, a part at a time.
 use book_parts::PART_ROOM;
-use libc::{STDIN_FILENO, STDOUT_FILENO};
+use std::io;
 
 // A byte more than the longest book has, to see that a book is longer.
 const ROOM_FOR_BOOK: usize = book_listing::LONGEST_BOOK + 1;
@@ -16,18 +16,18 @@ fn room_for_part() -> [u8; PART_ROOM] {
 }
 
 // Writes a part of the listing of a book after the other, until none of its lines is left.
-fn print_listing(book: &[u8]) {
+fn print_listing(rt: &impl Print, book: &[u8]) -> io::Result<()> {
     let mut out = room_for_part();
     let mut part = book_parts::put_part(book, 0, book_reached::nothing_reached(), &mut out);
     while part.next < book.len() {
-        io::write_all(STDOUT_FILENO, &out[..part.count]);
+        rt.write_all(&out[..part.count])?;
         part = book_parts::put_part(book, part.next, part.reached, &mut out);
     }
-    io::write_all(STDOUT_FILENO, &out[..part.count]);
+    rt.write_all(&out[..part.count])
 }
 
-fn main() {
+fn main(rt: HostRuntime) -> io::Result<()> {
     let mut book = room_for_book();
-    let length = io::read_full(STDIN_FILENO, &mut book);
-    print_listing(&book[..length]);
+    let length = input::read_full(&mut rt.reader(), &mut book)?;
+    print_listing(&rt, &book[..length])
 }

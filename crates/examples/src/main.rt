@@ -8,9 +8,12 @@ mod lines;
 mod print;
 mod steps;
 
-fn main() {
-    cells::print_all();
-    lines::print_all();
-    land::print_all();
-    steps::print_all();
+use std::io;
+
+fn main(rt: HostRuntime) -> io::Result<()> {
+    cells::print_all(&rt)?;
+    lines::print_all(&rt)?;
+    land::print_all(&rt)?;
+    steps::print_all(&rt)?;
+    Ok(())
 }

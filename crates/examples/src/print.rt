@@ -1,35 +1,39 @@
 // What the other modules print with: words, and what may follow them, on standard output.
 use forest::Forest;
-use libc::STDOUT_FILENO;
 use refusals::Refusal;
+use std::io;
 
-pub(crate) fn say(words: &[u8]) {
-    io::write_all(STDOUT_FILENO, words);
+pub(crate) fn say(rt: &impl Print, words: &[u8]) -> io::Result<()> {
+    rt.write_all(words)
 }
 
-pub(crate) fn say_number(words: &[u8], number: u64) {
-    say(words);
-    io::print_decimal(STDOUT_FILENO, number);
+pub(crate) fn say_number(rt: &impl Print, words: &[u8], number: u64) -> io::Result<()> {
+    say(rt, words)?;
+    print!(rt; "{number}")?;
+    Ok(())
 }
 
 // A number with one decimal.
-pub(crate) fn say_tenths(words: &[u8], tenths: u64) {
-    say_number(words, tenths / 10);
-    say_number(b".", tenths % 10);
+pub(crate) fn say_tenths(rt: &impl Print, words: &[u8], tenths: u64) -> io::Result<()> {
+    say_number(rt, words, tenths / 10)?;
+    say_number(rt, b".", tenths % 10)?;
+    Ok(())
 }
 
-pub(crate) fn say_forest(words: &[u8], forest: Forest) {
-    say(words);
+pub(crate) fn say_forest(rt: &impl Print, words: &[u8], forest: Forest) -> io::Result<()> {
+    say(rt, words)?;
     match forest {
-        Forest::Bare => say(b"bare land"),
-        Forest::Radiata(_) => say_number(b"radiata P", forest::order(forest) as u64),
-        Forest::DouglasFir => say(b"Douglas fir"),
-        Forest::ExoticSoftwoods => say(b"exotic softwoods"),
-        Forest::ExoticHardwoods => say(b"exotic hardwoods"),
-        Forest::Indigenous => say(b"indigenous"),
+        Forest::Bare => say(rt, b"bare land")?,
+        Forest::Radiata(_) => say_number(rt, b"radiata P", forest::order(forest) as u64)?,
+        Forest::DouglasFir => say(rt, b"Douglas fir")?,
+        Forest::ExoticSoftwoods => say(rt, b"exotic softwoods")?,
+        Forest::ExoticHardwoods => say(rt, b"exotic hardwoods")?,
+        Forest::Indigenous => say(rt, b"indigenous")?,
     }
+    Ok(())
 }
 
-pub(crate) fn say_refused(refusal: Refusal) {
-    say_number(b": refused ", refusals::number(refusal) as u64);
+pub(crate) fn say_refused(rt: &impl Print, refusal: Refusal) -> io::Result<()> {
+    say_number(rt, b": refused ", refusals::number(refusal) as u64)?;
+    Ok(())
 }

@@ -4,6 +4,7 @@ use forest::Forest;
 use holding::Holding;
 use line_entry::{Act, AreaAct};
 use refusals::Verdict;
+use std::io;
 use step_outcome::{Filed, Outcome, Report};
 use units::{Change, Tenths};
 
@@ -33,75 +34,94 @@ fn planted(own: &[u16], opening: u16, forest: Forest, year: u16) -> Holding {
     after(own, opened, stand)
 }
 
-fn say_stock(words: &[u8], holding: Holding) {
+fn say_stock(rt: &impl Print, words: &[u8], holding: Holding) -> io::Result<()> {
     let area = holding.areas[0];
     let stock = area.stock;
-    say_number(words, stock.0);
-    say(b" kg\n");
+    say_number(rt, words, stock.0)?;
+    say(rt, b" kg\n")?;
+    Ok(())
 }
 
-fn say_filed(filed: Filed) {
+fn say_filed(rt: &impl Print, filed: Filed) -> io::Result<()> {
     let change = filed.change;
-    say_number(b"Area ", filed.area as u64);
-    say_number(b", ", filed.first as u64);
-    say_number(b" to ", filed.last as u64);
+    say_number(rt, b"Area ", filed.area as u64)?;
+    say_number(rt, b", ", filed.first as u64)?;
+    say_number(rt, b" to ", filed.last as u64)?;
     match change {
-        Change::Gain(tonnes) => say_number(b": change ", tonnes),
-        Change::Loss(tonnes) => say_number(b": change -", tonnes),
+        Change::Gain(tonnes) => say_number(rt, b": change ", tonnes)?,
+        Change::Loss(tonnes) => say_number(rt, b": change -", tonnes)?,
     }
-    say_number(b", received ", filed.received);
-    say_number(b", due ", filed.due);
-    say_number(b", balance ", filed.balance);
-    say(b"\n");
+    say_number(rt, b", received ", filed.received)?;
+    say_number(rt, b", due ", filed.due)?;
+    say_number(rt, b", balance ", filed.balance)?;
+    say(rt, b"\n")?;
+    Ok(())
 }
 
-fn say_return(outcome: Outcome) {
+fn say_return(rt: &impl Print, outcome: Outcome) -> io::Result<()> {
     let report = outcome.report;
     let Report::Return(filed) = report else {
-        say(b"No return\n");
+        say(rt, b"No return\n")?;
         return;
     };
-    say_filed(filed);
+    say_filed(rt, filed)?;
+    Ok(())
 }
 
 // "Planted 1992, open 2008, last 2012: ages 16 and 21": a cell of 16 t at age 16, one of 21 t at age 21, and 0 at all others.
-fn ages() {
+fn ages(rt: &impl Print) -> io::Result<()> {
     let mut own = [0u16; 33];
     own[1] = 23;
     own[26] = 160;
     own[31] = 210;
     let opened = planted(&own, 2008, Forest::DouglasFir, 1992);
     let filed = after(&own, opened, Act::File { last: 2012 });
-    say(b"\n1 ha planted 1992, opened 2008, last 2012; cells of 16 at age 16, 21 at 21, else 0:\n");
-    say_stock(b"Opening stock: ", opened);
-    say_stock(b"Closing stock: ", filed);
+    say(
+        rt,
+        b"\n1 ha planted 1992, opened 2008, last 2012; cells of 16 at age 16, 21 at 21, else 0:\n",
+    )?;
+    say_stock(rt, b"Opening stock: ", opened)?;
+    say_stock(rt, b"Closing stock: ", filed)?;
+    Ok(())
 }
 
 // "Area of 1 ha, H cells 100,70,120, planted and opened 2010: returns to 2010 and 2011 report −30, 50; due 0; balance 50."
-fn falling_return() {
+fn falling_return(rt: &impl Print) -> io::Result<()> {
     let own = FALLING;
     let opened = planted(&own, 2010, Forest::ExoticHardwoods, 2010);
-    say(b"\nReturns of 1 ha with cells of 100, 70, 120, planted and opened 2010:\n");
-    say_return(apply(&own, opened, Act::File { last: 2010 }));
+    say(
+        rt,
+        b"\nReturns of 1 ha with cells of 100, 70, 120, planted and opened 2010:\n",
+    )?;
+    say_return(rt, apply(&own, opened, Act::File { last: 2010 }))?;
+    Ok(())
 }
 
-fn rising_return() {
+fn rising_return(rt: &impl Print) -> io::Result<()> {
     let own = FALLING;
     let opened = planted(&own, 2010, Forest::ExoticHardwoods, 2010);
     let filed = after(&own, opened, Act::File { last: 2010 });
-    say_return(apply(&own, filed, Act::File { last: 2011 }));
+    say_return(rt, apply(&own, filed, Act::File { last: 2011 }))?;
+    Ok(())
 }
 
 // Whether a step is taken, under words for it.
-fn say_taken(words: &[u8], own: &[u16], holding: Holding, on: AreaAct) {
-    say(words);
+fn say_taken(
+    rt: &impl Print,
+    words: &[u8],
+    own: &[u16],
+    holding: Holding,
+    on: AreaAct,
+) -> io::Result<()> {
+    say(rt, words)?;
     let outcome = step::enter(own, holding, on);
     let verdict = outcome.verdict;
     match verdict {
-        Verdict::Accepted => say(b": taken"),
-        Verdict::Refused(refusal) => say_refused(refusal),
+        Verdict::Accepted => say(rt, b": taken")?,
+        Verdict::Refused(refusal) => say_refused(rt, refusal)?,
     }
-    say(b"\n");
+    say(rt, b"\n")?;
+    Ok(())
 }
 
 fn opening(area: u16, year: u16) -> AreaAct {
@@ -112,19 +132,32 @@ fn opening(area: u16, year: u16) -> AreaAct {
 }
 
 // "The smallest number that applies": 2 to 5 of an entry made by hand, 6 of a list that is no table, 11 of an area that no statement carries.
-fn no_table() {
+fn no_table(rt: &impl Print) -> io::Result<()> {
     let no_table = [5u16];
     let none = [0u16; 10];
     let empty = holding::empty_holding();
-    say(b"\nSteps under the list 5, which is no table:\n");
+    say(rt, b"\nSteps under the list 5, which is no table:\n")?;
     say_taken(
+        rt,
         b"Area 1000 opens in 2010",
         &no_table,
         empty,
         opening(1000, 2010),
-    );
-    say_taken(b"Area 1 opens in 2007", &no_table, empty, opening(1, 2007));
-    say_taken(b"Area 1 opens in 2010", &no_table, empty, opening(1, 2010));
+    )?;
+    say_taken(
+        rt,
+        b"Area 1 opens in 2007",
+        &no_table,
+        empty,
+        opening(1, 2007),
+    )?;
+    say_taken(
+        rt,
+        b"Area 1 opens in 2010",
+        &no_table,
+        empty,
+        opening(1, 2010),
+    )?;
     let mut damaged = after(&none, empty, Act::Open { opening: 2010 });
     damaged.areas[0].received = 1;
     let withdrawal = AreaAct {
@@ -132,17 +165,20 @@ fn no_table() {
         act: Act::Withdraw,
     };
     say_taken(
+        rt,
         b"Area 1 withdraws, with a unit of no return",
         &no_table,
         damaged,
         withdrawal,
-    );
-    say_taken(b"The same under a table", &none, damaged, withdrawal);
+    )?;
+    say_taken(rt, b"The same under a table", &none, damaged, withdrawal)?;
+    Ok(())
 }
 
-pub(crate) fn print_all() {
-    no_table();
-    ages();
-    falling_return();
-    rising_return();
+pub(crate) fn print_all(rt: &impl Print) -> io::Result<()> {
+    no_table(rt)?;
+    ages(rt)?;
+    falling_return(rt)?;
+    rising_return(rt)?;
+    Ok(())
 }

@@ -1,8 +1,8 @@
+// Exports the book on standard input as a sheet.
 #![tactic(auto)]
 
-// Exports the book on standard input as a sheet.
-use libc::{STDIN_FILENO, STDOUT_FILENO};
 use sheet_export::ROOM;
+use std::io;
 
 // A byte more than the longest book has, to see that a book is longer.
 const ROOM_FOR_BOOK: usize = book_listing::LONGEST_BOOK + 1;
@@ -15,10 +15,10 @@ fn room_for_export() -> [u8; ROOM] {
     [0u8; ROOM]
 }
 
-fn main() {
+fn main(rt: HostRuntime) -> io::Result<()> {
     let mut book = room_for_book();
-    let length = io::read_full(STDIN_FILENO, &mut book);
+    let length = input::read_full(&mut rt.reader(), &mut book)?;
     let mut out = room_for_export();
     let count = sheet_export::put_sheet(&book[..length], &mut out);
-    io::write_all(STDOUT_FILENO, &out[..count]);
+    rt.write_all(&out[..count])
 }
