@@ -1,5 +1,6 @@
 -- The table that a T line leaves in a book, where so many areas stand: the first `count` of an array's numbers.
-use Rattle.laws.specs.{ℕ, ◌≤◌, ◌≡◌, List, length, take}
+use Rattle.std.specs.Prelude.{◌≤◌, ◌≡◌}
+use Rattle.laws.specs.{ℕ, List, length, take}
 use Rattle.refusals.specs.{buffer_after}
 use Rattle.table.specs.{longest_table}
 use Rattle.table_grow.specs.{longer_by, growable}

@@ -1,5 +1,6 @@
 -- "Export the accepted S entries of a book to that format, hectares as entered, each field quoted, rows ended by CR LF."
-use Rattle.laws.specs.{ℕ, Bool, true, false, cond, List, [], ◌∷◌, ◌++◌, ltb, length}
+use Rattle.std.specs.Prelude.{◌∷◌, ◌++◌}
+use Rattle.laws.specs.{ℕ, Bool, true, false, cond, List, [], ltb, length}
 use Rattle.refusals.specs.{Refusal, Verdict, ◌⇒◌, smallest}
 use Rattle.line_entry.specs.{Act, Entry, Parsed}
 use Rattle.line.specs.{entry_of}

@@ -1,5 +1,6 @@
 -- The foot of a listing: "Before the E line, `book` prints F, then units received, units surrendered and balance over all areas, withdrawn ones included."
-use Rattle.laws.specs.{ℕ, ◌+◌, ◌*◌, Bool, not, List, [], ◌∷◌, leb, every, all_of}
+use Rattle.std.specs.Prelude.{◌+◌, ◌*◌, ◌∷◌}
+use Rattle.laws.specs.{ℕ, Bool, not, List, [], leb, every, all_of}
 use Rattle.refusals.specs.{Refusal, Verdict, ◌⇒◌, smallest}
 use Rattle.holding.specs.{Holding, most_areas, areas_of}
 use Rattle.holding_look.specs.{Units, units_of}

@@ -1,5 +1,6 @@
 -- The listing of a book: a fold of one step over its lines.
-use Rattle.laws.specs.{ℕ, ◌+◌, cond, List, [], ◌∷◌, ◌++◌, ltb, length}
+use Rattle.std.specs.Prelude.{◌+◌, ◌∷◌, ◌++◌}
+use Rattle.laws.specs.{ℕ, cond, List, [], ltb, length}
 use Rattle.refusals.specs.{Verdict, Refusal}
 use Rattle.schedules.specs.{schedule6}
 use Rattle.line_entry.specs.{Entry, Parsed}

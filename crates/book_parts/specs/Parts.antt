@@ -1,6 +1,6 @@
 -- A listing in parts: what the next lines print, and behind the last line the foot and E. A part says where the next begins, and what the lines before it have come to.
-use Rattle.laws.specs.{ℕ, ◌+◌, ◌≤◌, ◌≡◌, true, cond, List, [], ◌∷◌, ◌++◌, length, take, drop}
-use Rattle.std.specs.Prelude.{◌<◌}
+use Rattle.laws.specs.{ℕ, true, cond, List, [], length, take, drop}
+use Rattle.std.specs.Prelude.{◌<◌, ◌+◌, ◌≤◌, ◌≡◌, ◌∷◌, ◌++◌}
 use Rattle.book_print.specs.{foot_width, pair_width}
 use Rattle.book_listing.specs.{Run, run_from, printed_from, closing, refused_book}
 use Rattle.book_reached.specs.{Reached, run_of, may_run_from}

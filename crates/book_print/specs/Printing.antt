@@ -1,7 +1,8 @@
 -- What `book` prints: "R: area, first and last year, change, received, due, balance; X: line, refusal; W: area, due; E: lines accepted, refused", and
 -- "before the E line .. F, then units received, units surrendered and balance over all areas".
 -- A comma is byte 44, a minus sign byte 45; every line ends with byte 10.
-use Rattle.laws.specs.{ℕ, cond, List, [], ◌∷◌, eqb, ◌+◌, ◌*◌, code}
+use Rattle.std.specs.Prelude.{◌∷◌, ◌+◌, ◌*◌}
+use Rattle.laws.specs.{ℕ, cond, List, [], eqb, code}
 use Rattle.text.specs.{comma, line_end}
 use Rattle.units.specs.{Change}
 use Rattle.refusals.specs.{Refusal, number_of}

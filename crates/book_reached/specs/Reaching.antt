@@ -1,5 +1,6 @@
 -- What the lines of a book have come to, and whether a book can have come so far.
-use Rattle.laws.specs.{ℕ, ◌+◌, Bool, all_of, List, [], ◌∷◌, leb, length, take, replicate}
+use Rattle.std.specs.Prelude.{◌+◌, ◌∷◌}
+use Rattle.laws.specs.{ℕ, Bool, all_of, List, [], leb, length, take, replicate}
 use Rattle.table.specs.{longest_table}
 use Rattle.holding.specs.{empty_holding}
 use Rattle.book_listing.specs.{Run, longest_book}

@@ -1,5 +1,6 @@
 -- How many bytes are printed at most, of a book and of a holding that entries reach.
-use Rattle.laws.specs.{ℕ, ◌+◌, ◌*◌}
+use Rattle.std.specs.Prelude.{◌+◌, ◌*◌}
+use Rattle.laws.specs.{ℕ}
 use Rattle.statement_format.specs.{start_width, field}
 use Rattle.book_foot.specs.{most_for_foot}
 use Rattle.book_listing.specs.{longest_book}

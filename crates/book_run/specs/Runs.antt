@@ -1,6 +1,6 @@
 -- Lines of a book run from a place on, so many at most, where the lines before have come to what is handed over.
-use Rattle.laws.specs.{ℕ, ◌+◌, ◌*◌, ◌≤◌, ◌≡◌, Bool, true, false, List, length, take, drop}
-use Rattle.std.specs.Prelude.{◌<◌}
+use Rattle.laws.specs.{ℕ, Bool, true, false, List, length, take, drop}
+use Rattle.std.specs.Prelude.{◌<◌, ◌+◌, ◌*◌, ◌≤◌, ◌≡◌}
 use Rattle.text.specs.{Wrote}
 use Rattle.book_print.specs.{report_width}
 use Rattle.book_listing.specs.{lines_of, run_from, printed_from}

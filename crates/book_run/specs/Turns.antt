@@ -1,5 +1,6 @@
 -- A line's turn, as it was read, on the area that was looked up for it. `own` is the participant's table, `default` the cells of Schedule 6 as they are lent.
-use Rattle.laws.specs.{ℕ, ◌≡◌, List}
+use Rattle.std.specs.Prelude.{◌≡◌}
+use Rattle.laws.specs.{ℕ, List}
 use Rattle.refusals.specs.{Refusal}
 use Rattle.line_entry.specs.{Entry, Parsed}
 use Rattle.holding_look.specs.{Looked}

@@ -1,6 +1,7 @@
 -- A book run line by line through the call, as the field unit's own program runs it: it keeps a statement, a table and one output buffer, and
 -- lends them to every call. Behind the last line it asks for the foot.
-use Rattle.laws.specs.{ℕ, suc, ◌+◌, Bool, true, false, cond, ◌&&◌, ◌||◌, List, [], ◌∷◌, ◌++◌, eqb, length, get_or, take, drop, ℤ, pos, negsuc, code}
+use Rattle.std.specs.Prelude.{◌+◌, ◌&&◌, ◌||◌, ◌∷◌, ◌++◌}
+use Rattle.laws.specs.{ℕ, suc, Bool, true, false, cond, List, [], eqb, length, get_or, take, drop, ℤ, pos, negsuc, code}
 use Rattle.text.specs.{line_end}
 use Rattle.book_room.specs.{return_width}
 use Rattle.holding.specs.{empty_holding}

@@ -1,5 +1,6 @@
 -- What is answered, and what then stands in the output, under a verdict and with these bytes to write.
-use Rattle.laws.specs.{ℕ, ◌≡◌, List, length}
+use Rattle.std.specs.Prelude.{◌≡◌}
+use Rattle.laws.specs.{ℕ, List, length}
 use Rattle.refusals.specs.{Verdict, Written, written, buffer_after}
 use Rattle.call_output.specs.Outputs.{with_room}
 

@@ -1,6 +1,7 @@
 -- What a call writes: "The output takes the new statement, then what `book` prints for an accepted R or W; for T it takes the longer table instead,
 -- two bytes a number, low byte first, as the table comes in."
-use Rattle.laws.specs.{code, ℕ, ◌/◌, ◌%◌, List, [], ◌∷◌, ◌++◌, ◌+◌, ltb, length}
+use Rattle.std.specs.Prelude.{◌/◌, ◌%◌, ◌∷◌, ◌++◌, ◌+◌}
+use Rattle.laws.specs.{code, ℕ, List, [], ltb, length}
 use Rattle.refusals.specs.{Refusal, Verdict, weighed}
 use Rattle.text.specs.{line_end}
 use Rattle.holding.specs.{Area, Holding}

@@ -1,6 +1,7 @@
 -- "Forest types: P1 to P9 (Pinus radiata with its region ..), D Douglas fir, S exotic softwoods, H exotic hardwoods, N indigenous."
 -- "Bare land is type B ..". A letter or digit is its byte.
-use Rattle.laws.specs.{ℕ, ◌+◌, cond, List, [], ◌∷◌, eqb, Bool, code}
+use Rattle.std.specs.Prelude.{◌+◌, ◌∷◌}
+use Rattle.laws.specs.{ℕ, cond, List, [], eqb, Bool, code}
 use Rattle.forest.specs.declared.Region.{Region}
 use Rattle.forest.specs.declared.Forest.{Forest}
 use Rattle.forest.specs.declared.Named.{Named}

@@ -1,5 +1,6 @@
 -- "A holding has up to 16 accounting areas ever (records are kept), each with up to 16 sub-areas." Of these, "the limit becomes 48" (document 02, item 4).
-use Rattle.laws.specs.{ℕ, Bool, true, false, cond, ◌&&◌, List, [], ◌∷◌, eqb, take, replicate, ◌+◌}
+use Rattle.std.specs.Prelude.{◌&&◌, ◌∷◌, ◌+◌}
+use Rattle.laws.specs.{ℕ, Bool, true, false, cond, List, [], eqb, take, replicate}
 use Rattle.units.specs.{Kilograms, no_kilograms}
 use Rattle.forest.specs.{Forest}
 use Rattle.ranges.specs.{is_bare}

@@ -1,5 +1,6 @@
 -- What stands at a place that a search found, an area looked up by its number, and the area with a sub-area put back.
-use Rattle.laws.specs.{ℕ, ◌-◌, max, Bool, true, false, List, get_or, set}
+use Rattle.std.specs.Prelude.{◌-◌}
+use Rattle.laws.specs.{ℕ, max, Bool, true, false, List, get_or, set}
 use Rattle.holding.specs.{Sub, Area, Holding, Found, empty_sub, empty_area, with_subs, with_latest, find_area}
 use Rattle.holding_look.specs.declared.Looked.{Looked}
 

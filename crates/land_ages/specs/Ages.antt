@@ -1,5 +1,6 @@
 -- The age of a hectare, by the type of its predominant species.
-use Rattle.laws.specs.{ℕ, max, cond, List, [], ◌∷◌}
+use Rattle.std.specs.Prelude.{◌∷◌}
+use Rattle.laws.specs.{ℕ, max, cond, List, []}
 use Rattle.forest.specs.{Forest, same_type}
 use Rattle.land_groups.specs.{Group, of_type, mean_age}
 

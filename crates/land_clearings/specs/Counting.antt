@@ -1,5 +1,6 @@
 -- The trees that count for pre-1990 land (002, 4.5): those of the clearing itself from nine years on, else the oldest of the last nine years.
-use Rattle.laws.specs.{ℕ, ◌+◌, ◌-◌, Bool, cond, ◌&&◌, List, foldl, leb, ltb, keep, outranks}
+use Rattle.std.specs.Prelude.{◌+◌, ◌-◌, ◌&&◌}
+use Rattle.laws.specs.{ℕ, Bool, cond, List, foldl, leb, ltb, keep, outranks}
 use Rattle.land_clearings.specs.declared.Clearing.{Clearing}
 
 -- "up to four earlier clearings"

@@ -1,5 +1,6 @@
 -- "Emissions are the sum of tenths × Schedule 4 cell × 10 kg over 1 to 64 parcels, rounded to tonnes, half up."
-use Rattle.laws.specs.{ℕ, ◌||◌, List, [], ◌∷◌, eqb, ltb, some, sum_by}
+use Rattle.std.specs.Prelude.{◌||◌, ◌∷◌}
+use Rattle.laws.specs.{ℕ, List, [], eqb, ltb, some, sum_by}
 use Rattle.refusals.specs.{Verdict, Case, ◌⇒◌, smallest, Refusal}
 use Rattle.units.specs.{Kilograms, tenths_of, trees_of, tonnes}
 use Rattle.schedules.specs.{schedule4}

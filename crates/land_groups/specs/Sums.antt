@@ -1,5 +1,6 @@
 -- Basal area by species and by type, and the mean age of a type.
-use Rattle.laws.specs.{ℕ, ◌+◌, ◌*◌, ◌/◌, Bool, cond, List, eqb, sum_by}
+use Rattle.std.specs.Prelude.{◌+◌, ◌*◌, ◌/◌}
+use Rattle.laws.specs.{ℕ, Bool, cond, List, eqb, sum_by}
 use Rattle.forest.specs.{Forest, same_type}
 use Rattle.land_groups.specs.declared.Group.{Group}
 use Rattle.land_groups.specs.declared.Weights.{Weights}

@@ -1,5 +1,6 @@
 -- A parcel of pre-1990 land: the clearing whose trees count, and what refuses the parcel.
-use Rattle.laws.specs.{ℕ, Bool, ◌||◌, List, ◌∷◌, ltb, take, some}
+use Rattle.std.specs.Prelude.{◌||◌, ◌∷◌}
+use Rattle.laws.specs.{ℕ, Bool, List, ltb, take, some}
 use Rattle.forest.specs.{same_type, Forest}
 use Rattle.ranges.specs.{first_year, last_year, first_planted, least_hectares, most_hectares}
 use Rattle.land_clearings.specs.{Clearing, most_earlier, least_age, age_of, counting_of}

@@ -1,5 +1,6 @@
 -- "Predominant: the species of greatest total basal area, the lower number on a tie."
-use Rattle.laws.specs.{ℕ, Bool, cond, List, [], ◌∷◌, foldl, ltb, outranks}
+use Rattle.std.specs.Prelude.{◌∷◌}
+use Rattle.laws.specs.{ℕ, Bool, cond, List, [], foldl, ltb, outranks}
 use Rattle.forest.specs.{Forest}
 use Rattle.land_groups.specs.{Group, species_area}
 

@@ -1,5 +1,6 @@
 -- The groups of a lent list, gathered one by one into as many places as are held.
-use Rattle.laws.specs.{ℕ, false, ◌||◌, replicate, set}
+use Rattle.std.specs.Prelude.{◌||◌}
+use Rattle.laws.specs.{ℕ, false, replicate, set}
 use Rattle.forest.specs.{Forest}
 use Rattle.land_groups.specs.{Group, most_groups, of_type}
 use Rattle.land_predominance.specs.{no_group}

@@ -1,5 +1,6 @@
 -- The type and age of a hectare, or the refusal of its tree list.
-use Rattle.laws.specs.{ℕ, Bool, not, ◌&&◌, ◌||◌, List, [], ◌∷◌, eqb, ltb, length, some}
+use Rattle.std.specs.Prelude.{◌&&◌, ◌||◌, ◌∷◌}
+use Rattle.laws.specs.{ℕ, Bool, not, List, [], eqb, ltb, length, some}
 use Rattle.refusals.specs.{Verdict, Case, ◌⇒◌, smallest, Refusal}
 use Rattle.forest.specs.{Forest}
 use Rattle.land_groups.specs.{Group, most_groups, of_species, of_type}

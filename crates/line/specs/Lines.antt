@@ -1,5 +1,6 @@
 -- What a line says: an entry, or the smallest number that refuses it.
-use Rattle.laws.specs.{code, ℕ, ◌-◌, Bool, true, not, cond, List, [], ◌∷◌, eqb, ltb, length, get_or, take}
+use Rattle.std.specs.Prelude.{◌-◌, ◌∷◌}
+use Rattle.laws.specs.{code, ℕ, Bool, true, not, cond, List, [], eqb, ltb, length, get_or, take}
 use Rattle.text.specs.{comma, line_end, holds, split}
 use Rattle.refusals.specs.{Verdict, Case, ◌⇒◌, smallest, Refusal}
 use Rattle.line_entry.specs.{Parsed, Rule, parsed, open_rule, add_rule, clear_rule, plant_rule, file_rule, withdraw_rule, Act, Entry, on}

@@ -1,5 +1,6 @@
 -- "T,kind,type,cells: kind G (stock) or R (residue); type P, D, S, H or N; 1 to 101 cells, each a number with at most one decimal, at most 3000."
-use Rattle.laws.specs.{code, ℕ, not, List, [], ◌∷◌, leb, ltb, length, drop}
+use Rattle.std.specs.Prelude.{◌∷◌}
+use Rattle.laws.specs.{code, ℕ, not, List, [], leb, ltb, length, drop}
 use Rattle.table.specs.{longest_column}
 use Rattle.text.specs.{holds, field_at}
 use Rattle.text_value.specs.{malformed}

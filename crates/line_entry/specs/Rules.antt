@@ -1,6 +1,7 @@
 -- "Entries" of document 01, letter by letter: the cases in which its fields are refused, by rising number, and the entry otherwise.
 -- The form of the whole line is judged first.
-use Rattle.laws.specs.{code, ℕ, Bool, not, ◌||◌, List, [], ◌∷◌, eqb, length}
+use Rattle.std.specs.Prelude.{◌||◌, ◌∷◌}
+use Rattle.laws.specs.{code, ℕ, Bool, not, List, [], eqb, length}
 use Rattle.units.specs.{tenths_of}
 use Rattle.text_value.specs.{malformed, value_of, outside}
 use Rattle.line_type.specs.{unlisted, unplantable, misdated, forest_of}

@@ -1,5 +1,6 @@
 -- The ranges of document 01's "Entries". "A reader accepts it exactly when fields keep the ranges above": a statement's fields keep them too.
-use Rattle.laws.specs.{ℕ, Bool, true, false, not, ◌&&◌, ◌||◌, eqb, leb}
+use Rattle.std.specs.Prelude.{◌&&◌, ◌||◌}
+use Rattle.laws.specs.{ℕ, Bool, true, false, not, eqb, leb}
 use Rattle.forest.specs.{Forest}
 use Rattle.units.specs.{Tenths}
 

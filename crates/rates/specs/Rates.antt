@@ -1,5 +1,6 @@
 -- The column consulted, the look-up of a cell by age, and the decay of residue. `own` is the participant's table, `default` the cells of Schedule 6 as they are lent.
-use Rattle.laws.specs.{code, ℕ, ◌-◌, min, cond, List, [], eqb, ltb, length, get_or, take, drop}
+use Rattle.std.specs.Prelude.{◌-◌}
+use Rattle.laws.specs.{code, ℕ, min, cond, List, [], eqb, ltb, length, get_or, take, drop}
 use Rattle.units.specs.{Rate}
 use Rattle.forest.specs.{Forest, letters_of}
 use Rattle.schedules.specs.{Kind, Place, Column, listed, place_four, place_six}

@@ -1,5 +1,6 @@
 -- Bytes or numbers written to the front of a lent buffer, or a refusal, which leaves it as it was.
-use Rattle.laws.specs.{ℕ, List, ◌++◌, length, drop}
+use Rattle.std.specs.Prelude.{◌++◌}
+use Rattle.laws.specs.{ℕ, List, length, drop}
 use Rattle.refusals.specs.declared.Verdict.{Verdict}
 use Rattle.refusals.specs.declared.Written.{Written}
 

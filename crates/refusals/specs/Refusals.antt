@@ -1,5 +1,6 @@
 -- Refusals under document 01's numbers ("Turned back by the input", "Turned back by the state") and those of document 02, and the smallest that applies.
-use Rattle.laws.specs.{ℕ, Bool, true, false, cond, List, [], ◌∷◌, leb}
+use Rattle.std.specs.Prelude.{◌∷◌}
+use Rattle.laws.specs.{ℕ, Bool, true, false, cond, List, [], leb}
 use Rattle.refusals.specs.declared.Refusal.{Refusal}
 use Rattle.refusals.specs.declared.Verdict.{Verdict}
 

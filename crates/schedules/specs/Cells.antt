@@ -1,6 +1,7 @@
 -- tools/schedules.py made this file from data/schedules-2017.csv.
 -- The columns of Schedules 4 and 6 (002, Appendix 2): the first listed age, then a cell for each age in tenths of a tonne per hectare.
-use Rattle.laws.specs.{List, [], ◌∷◌}
+use Rattle.std.specs.Prelude.{◌∷◌}
+use Rattle.laws.specs.{List, []}
 use Rattle.schedules.specs.Columns.{Column, listed}
 
 -- Schedule 4, pre-1990 forest land: carbon stock

@@ -1,5 +1,6 @@
 -- Columns of cells by age, and their places where they are joined.
-use Rattle.laws.specs.{ℕ, ◌+◌, List, [], ◌∷◌, ◌++◌, length}
+use Rattle.std.specs.Prelude.{◌+◌, ◌∷◌, ◌++◌}
+use Rattle.laws.specs.{ℕ, List, [], length}
 use Rattle.schedules.specs.declared.Place.{Place}
 
 -- the first listed age, and the cells from that age on

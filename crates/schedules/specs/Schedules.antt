@@ -1,5 +1,6 @@
 -- "Default tables: Schedule 6 (post-1989: stock and residue columns) and Schedule 4 (pre-1990) of Appendix 2."
-use Rattle.laws.specs.{ℕ, List, ◌∷◌, ◌++◌, length, get_or}
+use Rattle.std.specs.Prelude.{◌∷◌, ◌++◌}
+use Rattle.laws.specs.{ℕ, List, length, get_or}
 use Rattle.forest.specs.{Forest, order_of}
 use Rattle.schedules.specs.declared.Kind.{Kind}
 use Rattle.schedules.specs.declared.Place.{Place}

@@ -1,5 +1,6 @@
 -- How many bytes an export has at most.
-use Rattle.laws.specs.{ℕ, ◌+◌, ◌*◌}
+use Rattle.std.specs.Prelude.{◌+◌, ◌*◌}
+use Rattle.laws.specs.{ℕ}
 use Rattle.book_listing.specs.{longest_book}
 
 -- the heading: five names of 26 bytes in all, each between quotes, four commas, CR and LF

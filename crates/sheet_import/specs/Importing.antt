@@ -1,6 +1,7 @@
 -- "Import one heading row .., then rows of those five fields, and turn them into S entries in row order, added to a holding. .. A sheet is taken entire or
 -- not at all." `own` is the participant's table.
-use Rattle.laws.specs.{code, ℕ, List, [], ◌∷◌, ◌++◌, drop}
+use Rattle.std.specs.Prelude.{◌∷◌, ◌++◌}
+use Rattle.laws.specs.{code, ℕ, List, [], drop}
 use Rattle.refusals.specs.{Verdict}
 use Rattle.text.specs.{comma, line_end, join}
 use Rattle.holding.specs.{Holding}

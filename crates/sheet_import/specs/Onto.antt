@@ -1,6 +1,7 @@
 -- A sheet imported onto the holding that a statement carries, and the new statement: "An operation that takes bytes judges .. its statement (11 ..) before its
 -- own numbers".
-use Rattle.laws.specs.{code, ℕ, ◌+◌, List, ◌++◌}
+use Rattle.std.specs.Prelude.{◌+◌, ◌++◌}
+use Rattle.laws.specs.{code, ℕ, List}
 use Rattle.refusals.specs.{Verdict, and_then}
 use Rattle.text.specs.{line_end}
 use Rattle.statement_format.specs.{start_text, number_text, statement_of, start_width, long_width}

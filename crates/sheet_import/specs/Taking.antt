@@ -1,5 +1,6 @@
 -- How a row is read: as the line made of the bytes at its place.
-use Rattle.laws.specs.{code, ℕ, ◌+◌, ◌≡◌, List, [], ◌∷◌, ◌++◌, drop}
+use Rattle.std.specs.Prelude.{◌+◌, ◌≡◌, ◌∷◌, ◌++◌}
+use Rattle.laws.specs.{code, ℕ, List, [], drop}
 use Rattle.text.specs.{comma, line_end}
 use Rattle.line.specs.{entry_of}
 use Rattle.sheet_read.specs.{Reading, joined_from, width_from}

@@ -1,5 +1,6 @@
 -- What refuses a sheet before any of its rows is taken: "41 quoting or a row end broken, checked first; 42 a row without five fields or another first row".
-use Rattle.laws.specs.{code, ℕ, Bool, true, false, not, ◌&&◌, List, [], ◌∷◌, eqb, length, every}
+use Rattle.std.specs.Prelude.{◌&&◌, ◌∷◌}
+use Rattle.laws.specs.{code, ℕ, Bool, true, false, not, List, [], eqb, length, every}
 use Rattle.refusals.specs.{Refusal, Verdict, ◌⇒◌, smallest}
 use Rattle.sheet_read.specs.{Row, sound, rows_of}
 

@@ -1,5 +1,6 @@
 -- The first row of bytes, its fields joined by commas: what it puts, how many fields it has, and how far it goes.
-use Rattle.laws.specs.{ℕ, suc, ◌+◌, ◌≡◌, Bool, true, false, cond, List, [], ◌∷◌, ◌++◌, drop}
+use Rattle.std.specs.Prelude.{◌+◌, ◌≡◌, ◌∷◌, ◌++◌}
+use Rattle.laws.specs.{ℕ, suc, Bool, true, false, cond, List, [], drop}
 use Rattle.text.specs.{comma, Wrote}
 use Rattle.sheet_read.specs.declared.Reading.{Reading}
 use Rattle.sheet_read.specs.declared.Mark.{Mark}

@@ -1,5 +1,6 @@
 -- "rows as comma-separated values under RFC 4180": the rows of a sheet, each of its fields, unquoted.
-use Rattle.laws.specs.{ℕ, List, [], ◌∷◌}
+use Rattle.std.specs.Prelude.{◌∷◌}
+use Rattle.laws.specs.{ℕ, List, []}
 use Rattle.text.specs.{extend}
 use Rattle.sheet_read.specs.declared.Reading.{Reading}
 use Rattle.sheet_read.specs.declared.Mark.{Mark}

@@ -1,5 +1,6 @@
 -- RFC 4180, section 2, byte by byte: where a reader of a sheet stands between two bytes, and what a byte is to its field and its row.
-use Rattle.laws.specs.{ℕ, Bool, true, false, cond, ◌||◌, List, [], ◌∷◌, eqb}
+use Rattle.std.specs.Prelude.{◌||◌, ◌∷◌}
+use Rattle.laws.specs.{ℕ, Bool, true, false, cond, List, [], eqb}
 use Rattle.text.specs.{comma}
 use Rattle.sheet_read.specs.declared.Reading.{Reading}
 use Rattle.sheet_read.specs.declared.Mark.{Mark}

@@ -1,5 +1,6 @@
 -- Rows as bytes under RFC 4180: "each field quoted, rows ended by CR LF".
-use Rattle.laws.specs.{ℕ, cond, List, [], ◌∷◌, ◌++◌, map, eqb}
+use Rattle.std.specs.Prelude.{◌∷◌, ◌++◌}
+use Rattle.laws.specs.{ℕ, cond, List, [], map, eqb}
 use Rattle.text.specs.{split, field_at, join}
 use Rattle.statement_format.specs.{texts}
 use Rattle.sheet_read.specs.{Row, quote, carriage_return, line_feed}

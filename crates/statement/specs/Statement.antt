@@ -1,5 +1,6 @@
 -- "A reader accepts it exactly when fields keep the ranges above ..; and the bytes are the writer's."
-use Rattle.laws.specs.{ℕ, Bool, not, ◌&&◌, List, [], ◌∷◌, eqb, ltb, length}
+use Rattle.std.specs.Prelude.{◌&&◌, ◌∷◌}
+use Rattle.laws.specs.{ℕ, Bool, not, List, [], eqb, ltb, length}
 use Rattle.refusals.specs.{Verdict, ◌⇒◌, smallest, Refusal}
 use Rattle.holding.specs.{Holding, empty_holding}
 use Rattle.statement_carried.specs.{Limits, limits, carried_within}

@@ -1,5 +1,6 @@
 -- What a holding keeps so that a statement carries it: "A reader accepts it exactly when .." of document 01.
-use Rattle.laws.specs.{ℕ, ◌+◌, ◌*◌, max, Bool, not, ◌||◌, Bool·beq, [], ◌∷◌, eqb, leb, every, distinct, all_of}
+use Rattle.std.specs.Prelude.{◌+◌, ◌*◌, ◌||◌, ◌∷◌}
+use Rattle.laws.specs.{ℕ, max, Bool, not, Bool·beq, [], eqb, leb, every, distinct, all_of}
 use Rattle.ranges.specs.{last_year, is_bare, is_area, is_sub, is_year, is_land, is_planted}
 use Rattle.holding.specs.{Residue, Sub, Area, Holding, most_areas, areas_of, subs_of, residues_of}
 use Rattle.statement_carried.specs.Most.{Limits, limits}

@@ -1,7 +1,7 @@
 -- What stands at a place of a list of bytes, and the place after it. The place 0 is nowhere. The reader's own:
 -- `accepts_just_when` (theorem_round_trips) says what it comes to by `carried` and `statement_of` alone.
-use Rattle.laws.specs.{ℕ, ◌+◌, ◌≤◌, ◌≡◌, cond, ◌&&◌, List, eqb, leb, ltb, length, take, drop, get_or}
-use Rattle.std.specs.Prelude.{◌<◌}
+use Rattle.laws.specs.{ℕ, cond, List, eqb, leb, ltb, length, take, drop, get_or}
+use Rattle.std.specs.Prelude.{◌<◌, ◌+◌, ◌≤◌, ◌≡◌, ◌&&◌}
 use Rattle.text.specs.{comma, width_to}
 use Rattle.text_number.specs.{Number, more, number_in}
 use Rattle.forest.specs.{Named, named, Forest}

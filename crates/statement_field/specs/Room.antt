@@ -1,6 +1,7 @@
 -- What a write of a part of a statement leaves. A statement is bounded, since its numbers have at most twenty digits each and its
 -- lists at most as many elements as there are places; so the place after it is short of the greatest, at which places stay.
-use Rattle.laws.specs.{ℕ, ◌≤◌, List, length}
+use Rattle.std.specs.Prelude.{◌≤◌}
+use Rattle.laws.specs.{ℕ, List, length}
 use Rattle.text.specs.{Wrote}
 
 -- bytes written, which are at most so many

@@ -1,6 +1,7 @@
 -- The carried statement: "Lines: H,areas. Then per area, in order of opening: A,.. ; then its S,.. , in order of adding. .. Every line ends with byte 10."
 -- A comma is byte 44; a letter is its byte.
-use Rattle.laws.specs.{ℕ, Bool, true, false, List, [], ◌∷◌, ◌++◌, code}
+use Rattle.std.specs.Prelude.{◌∷◌, ◌++◌}
+use Rattle.laws.specs.{ℕ, Bool, true, false, List, [], code}
 use Rattle.text.specs.{digits, comma, line_end}
 use Rattle.forest.specs.{Forest, letters_of}
 use Rattle.holding.specs.{Residue, Sub, Area, Holding, areas_of, subs_of, no_residue, residues_of}

@@ -1,5 +1,6 @@
 -- How many bytes a field takes at most, with the byte that ends it, and what lines of such fields take.
-use Rattle.laws.specs.{ℕ, ◌+◌, ◌*◌}
+use Rattle.std.specs.Prelude.{◌+◌, ◌*◌}
+use Rattle.laws.specs.{ℕ}
 use Rattle.holding.specs.{most_areas, most_subs}
 
 -- a letter and a comma

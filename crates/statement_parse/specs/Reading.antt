@@ -1,6 +1,7 @@
 -- How a statement is read: field by field, each at the place after the one before; a number up to so many bits as hold its range,
 -- which is judged afterwards. What is accepted so is a carried holding's bytes and no other: `accepts_just_when` (theorem_round_trips).
-use Rattle.laws.specs.{ℕ, zero, suc, ◌+◌, List, [], eqb, set, replicate, code}
+use Rattle.std.specs.Prelude.{◌+◌}
+use Rattle.laws.specs.{ℕ, zero, suc, List, [], eqb, set, replicate, code}
 use Rattle.text.specs.{comma, line_end}
 use Rattle.holding.specs.{Sub, Area, most_areas, most_subs, empty_sub, opened_with, with_subs}
 use Rattle.statement_cursor.specs.{number_at, type_at, start_at, line_at}

@@ -1,5 +1,6 @@
 -- The pass over a statement's areas: each is judged as it stands, its number kept, its place noted if it is the one looked for, and its units added.
-use Rattle.laws.specs.{ℕ, zero, suc, ◌+◌, ◌≡◌, true, cond, List, map, eqb, length, take, every}
+use Rattle.std.specs.Prelude.{◌+◌, ◌≡◌}
+use Rattle.laws.specs.{ℕ, zero, suc, true, cond, List, map, eqb, length, take, every}
 use Rattle.holding.specs.{Area, Found, most_areas, empty_area}
 use Rattle.holding_look.specs.{units_in}
 use Rattle.statement_carried.specs.{area_carried}

@@ -1,5 +1,6 @@
 -- The places of a statement's areas in its bytes.
-use Rattle.laws.specs.{ℕ, zero, suc, ◌+◌, List, [], ◌∷◌, length, code}
+use Rattle.std.specs.Prelude.{◌+◌, ◌∷◌}
+use Rattle.laws.specs.{ℕ, zero, suc, List, [], length, code}
 use Rattle.text.specs.{line_end}
 use Rattle.holding.specs.{Area, Found, most_areas}
 use Rattle.statement_cursor.specs.{NumberField, number_at, start_at}

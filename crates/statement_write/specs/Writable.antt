@@ -1,5 +1,6 @@
 -- Whether bytes can be written into a buffer.
-use Rattle.laws.specs.{ℕ, List, [], ◌∷◌, ltb, length}
+use Rattle.std.specs.Prelude.{◌∷◌}
+use Rattle.laws.specs.{ℕ, List, [], ltb, length}
 use Rattle.refusals.specs.{Verdict, ◌⇒◌, smallest, Refusal}
 
 -- "8 output shorter than needed"; room is how many bytes the buffer has

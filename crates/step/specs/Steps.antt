@@ -1,5 +1,6 @@
 -- A step of a holding, and a list of steps. `own` is the participant's table, `default` the cells of Schedule 6 as they are lent.
-use Rattle.laws.specs.{ℕ, Bool, true, false, not, List, [], ◌∷◌}
+use Rattle.std.specs.Prelude.{◌∷◌}
+use Rattle.laws.specs.{ℕ, Bool, true, false, not, List, []}
 use Rattle.refusals.specs.{Refusal, Case, ◌⇒◌, smaller}
 use Rattle.schedules.specs.{schedule6}
 use Rattle.table.specs.{is_table, judged}

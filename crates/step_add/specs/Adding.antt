@@ -1,5 +1,6 @@
 -- "S,area,sub,hectares,type,planted": a sub-area is added. "Its stock at the opening year is added to the area's opening stock."
-use Rattle.laws.specs.{ℕ, ◌+◌, not, ◌&&◌, List, [], ◌∷◌, ◌++◌, eqb, ltb, leb, set}
+use Rattle.std.specs.Prelude.{◌+◌, ◌&&◌, ◌∷◌, ◌++◌}
+use Rattle.laws.specs.{ℕ, not, List, [], eqb, ltb, leb, set}
 use Rattle.refusals.specs.{Case, ◌⇒◌, smallest, Refusal}
 use Rattle.units.specs.{Tenths}
 use Rattle.forest.specs.{Forest}

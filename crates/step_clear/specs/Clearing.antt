@@ -1,5 +1,6 @@
 -- "C,area,sub,year clears".
-use Rattle.laws.specs.{ℕ, ◌-◌, not, ◌&&◌, ◌||◌, List, [], ◌∷◌, ◌++◌, ltb}
+use Rattle.std.specs.Prelude.{◌-◌, ◌&&◌, ◌||◌, ◌∷◌, ◌++◌}
+use Rattle.laws.specs.{ℕ, not, List, [], ltb}
 use Rattle.refusals.specs.{Case, ◌⇒◌, smallest, Refusal}
 use Rattle.forest.specs.{Forest}
 use Rattle.ranges.specs.{is_bare, is_area, is_sub, is_year}

@@ -1,5 +1,6 @@
 -- "R,area,last: return from the open year to 31 December of last .."
-use Rattle.laws.specs.{ℕ, ◌+◌, min, not, ◌||◌, List, [], ◌∷◌, ◌++◌, ltb}
+use Rattle.std.specs.Prelude.{◌+◌, ◌||◌, ◌∷◌, ◌++◌}
+use Rattle.laws.specs.{ℕ, min, not, List, [], ltb}
 use Rattle.refusals.specs.{Case, ◌⇒◌, smallest, Refusal}
 use Rattle.units.specs.{Change, change_between}
 use Rattle.ranges.specs.{is_area, is_year}

@@ -1,5 +1,6 @@
 -- "A,area,opening: opens an area on 1 January of opening .."
-use Rattle.laws.specs.{ℕ, ◌+◌, not, List, [], ◌∷◌, leb}
+use Rattle.std.specs.Prelude.{◌+◌, ◌∷◌}
+use Rattle.laws.specs.{ℕ, not, List, [], leb}
 use Rattle.refusals.specs.{Case, ◌⇒◌, smallest, Refusal}
 use Rattle.ranges.specs.{is_area, is_year}
 use Rattle.holding.specs.{most_areas, opened_area, Found}

@@ -1,5 +1,6 @@
 -- What a step answers: the verdict, the report, and the one area that comes to stand at a place, of how many.
-use Rattle.laws.specs.{ℕ, Bool, not, ◌&&◌, List, [], ◌∷◌, set}
+use Rattle.std.specs.Prelude.{◌&&◌, ◌∷◌}
+use Rattle.laws.specs.{ℕ, Bool, not, List, [], set}
 use Rattle.refusals.specs.{Refusal, Verdict, Case, ◌⇒◌}
 use Rattle.holding.specs.{Area, Holding, Found, empty_area}
 use Rattle.holding_look.specs.{known}

@@ -1,5 +1,6 @@
 -- "W,area: withdraws the area."
-use Rattle.laws.specs.{ℕ, ◌+◌, not, List, ◌∷◌}
+use Rattle.std.specs.Prelude.{◌+◌, ◌∷◌}
+use Rattle.laws.specs.{ℕ, not, List}
 use Rattle.refusals.specs.{Case, ◌⇒◌, smallest, Refusal}
 use Rattle.ranges.specs.{is_area}
 use Rattle.holding.specs.{Area, Found, with_units, as_withdrawn}

@@ -1,6 +1,7 @@
 -- Sub-area stock: "Stock on 1 January of year y, from S entries and from clearings and plantings of earlier years .."
 -- `own` is the participant's table, `default` the cells of Schedule 6 as they are lent.
-use Rattle.laws.specs.{ℕ, ◌+◌, ◌-◌, cond, List, leb, ltb, sum_by}
+use Rattle.std.specs.Prelude.{◌+◌, ◌-◌}
+use Rattle.laws.specs.{ℕ, cond, List, leb, ltb, sum_by}
 use Rattle.units.specs.{Tenths, Kilograms, no_kilograms, trees_of, residue_of}
 use Rattle.schedules.specs.{Kind}
 use Rattle.rates.specs.{rate_six, share_after}

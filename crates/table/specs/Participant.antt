@@ -1,7 +1,8 @@
 -- The participant's table. "A participant's table is lent together with the length of each column: a list of 16-bit numbers, first ten lengths
 -- (0 to 101), for stock of P, D, S, H, N, then residue in that order; then the cells in tenths, at most 30,000 each (else 6), ages from 0,
 -- columns joined, no remainder. .. The empty list means no participant's table."
-use Rattle.laws.specs.{◌+◌, ◌*◌, ℕ, Bool, not, ◌&&◌, ◌||◌, List, [], ◌∷◌, leb, eqb, length, each_at_most, sum_of}
+use Rattle.std.specs.Prelude.{◌+◌, ◌*◌, ◌&&◌, ◌||◌, ◌∷◌}
+use Rattle.laws.specs.{ℕ, Bool, not, List, [], leb, eqb, length, each_at_most, sum_of}
 use Rattle.refusals.specs.{Verdict, ◌⇒◌, smallest, Refusal}
 use Rattle.schedules.specs.{cell_ceiling}
 use Rattle.table_parts.specs.{column_count, lengths_of, cells_of}

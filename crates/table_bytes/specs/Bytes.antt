@@ -1,5 +1,6 @@
 -- A table as bytes: "two bytes a number, low byte first, as the table comes in".
-use Rattle.laws.specs.{ℕ, ◌+◌, ◌*◌, ◌/◌, ◌%◌, not, List, [], ◌∷◌, eqb, ltb, length}
+use Rattle.std.specs.Prelude.{◌+◌, ◌*◌, ◌/◌, ◌%◌, ◌∷◌}
+use Rattle.laws.specs.{ℕ, not, List, [], eqb, ltb, length}
 use Rattle.refusals.specs.{Verdict, ◌⇒◌, smallest, Refusal}
 use Rattle.table.specs.{longest_table}
 

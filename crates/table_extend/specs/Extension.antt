@@ -1,5 +1,6 @@
 -- A column that a T entry adds. "It extends the table; refused (6) where its column or a later one already has cells."
-use Rattle.laws.specs.{ℕ, ◌+◌, Bool, not, cond, List, [], ◌∷◌, ◌++◌, eqb, leb, ltb, length, drop, set, replicate, each_at_most}
+use Rattle.std.specs.Prelude.{◌+◌, ◌∷◌, ◌++◌}
+use Rattle.laws.specs.{ℕ, Bool, not, cond, List, [], eqb, leb, ltb, length, drop, set, replicate, each_at_most}
 use Rattle.refusals.specs.{Verdict, ◌⇒◌, smallest, Refusal}
 use Rattle.schedules.specs.{cell_ceiling}
 use Rattle.table_parts.specs.{column_count, lengths_of, cells_of}

@@ -1,5 +1,6 @@
 -- A participant's table as it is lent, and its columns.
-use Rattle.laws.specs.{ℕ, ◌+◌, cond, List, leb, length, get_or, take, drop, replicate, sum_of}
+use Rattle.std.specs.Prelude.{◌+◌}
+use Rattle.laws.specs.{ℕ, cond, List, leb, length, get_or, take, drop, replicate, sum_of}
 use Rattle.table_parts.specs.{column_count, lengths_of, length_of}
 
 -- the cells of a column by its number; what is no column has none

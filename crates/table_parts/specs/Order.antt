@@ -1,5 +1,6 @@
 -- The order of a participant's columns: "for stock of P, D, S, H, N, then residue in that order".
-use Rattle.laws.specs.{code, ℕ, ◌+◌, ◌*◌, List, [], ◌∷◌, ◌++◌}
+use Rattle.std.specs.Prelude.{◌+◌, ◌*◌, ◌∷◌, ◌++◌}
+use Rattle.laws.specs.{code, ℕ, List, []}
 use Rattle.text.specs.{width_to}
 
 -- "kind G (stock) or R (residue)"

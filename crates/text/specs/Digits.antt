@@ -1,5 +1,6 @@
 -- "numbers are decimal without leading zeros": the digits of a number, the most significant first, each its byte.
-use Rattle.laws.specs.{code, ℕ, zero, suc, ◌+◌, ◌/◌, ◌%◌, cond, List, [], ◌∷◌, ◌++◌, ltb}
+use Rattle.std.specs.Prelude.{◌+◌, ◌/◌, ◌%◌, ◌∷◌, ◌++◌}
+use Rattle.laws.specs.{code, ℕ, zero, suc, cond, List, [], ltb}
 
 -- in at most as many steps as the first number says
 unfoldable pub digits_in : ℕ → ℕ → List ℕ

@@ -1,5 +1,6 @@
 -- "Fields stand in fixed order parted by commas, no quoting".
-use Rattle.laws.specs.{ℕ, cond, ◌≡◌, List, [], ◌∷◌, ◌++◌, eqb, get_or, code, zero, suc, Bool, ltb, length}
+use Rattle.std.specs.Prelude.{◌≡◌, ◌∷◌, ◌++◌}
+use Rattle.laws.specs.{ℕ, cond, List, [], eqb, get_or, code, zero, suc, Bool, ltb, length}
 
 abbrev pub comma : ℕ
 comma = code ","

@@ -1,5 +1,6 @@
 -- What a write leaves. One statement for every writer.
-use Rattle.laws.specs.{ℕ, ◌+◌, ◌≤◌, min, ◌≡◌, List, length, sets}
+use Rattle.std.specs.Prelude.{◌+◌, ◌≤◌, ◌≡◌}
+use Rattle.laws.specs.{ℕ, min, List, length, sets}
 
 -- the greatest place
 abbrev pub greatest : ℕ

@@ -1,5 +1,6 @@
 -- Numbers with a point. With k decimals, zeros filled in, and without its point such a number is a whole one in the unit of the last decimal.
-use Rattle.laws.specs.{code, ℕ, ◌-◌, cond, List, [], ◌∷◌, ltb, eqb, length, take, drop, replicate}
+use Rattle.std.specs.Prelude.{◌-◌, ◌∷◌}
+use Rattle.laws.specs.{code, ℕ, cond, List, [], ltb, eqb, length, take, drop, replicate}
 use Rattle.text.specs.{width_to}
 use Rattle.text_number.specs.{Number, more, number_in}
 

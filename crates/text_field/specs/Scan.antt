@@ -1,5 +1,6 @@
 -- Where the fields of a line stand: how many there are, and where each of the first six starts.
-use Rattle.laws.specs.{ℕ, ◌+◌, ◌-◌, cond, List, [], ◌∷◌, ltb, length, get_or, take, drop, replicate, sets}
+use Rattle.std.specs.Prelude.{◌+◌, ◌-◌, ◌∷◌}
+use Rattle.laws.specs.{ℕ, cond, List, [], ltb, length, get_or, take, drop, replicate, sets}
 use Rattle.text_field.specs.declared.Places.{Places}
 
 -- where fields start that are parted by one byte each, the first of them at a given place, and where one behind the last would

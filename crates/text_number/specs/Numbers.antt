@@ -1,5 +1,6 @@
 -- "numbers are decimal without leading zeros": at least one digit, and no limit to how many.
-use Rattle.laws.specs.{code, ℕ, ◌+◌, ◌*◌, ◌-◌, Bool, true, false, cond, not, ◌&&◌, List, [], ◌∷◌, ltb, leb, eqb}
+use Rattle.std.specs.Prelude.{◌+◌, ◌*◌, ◌-◌, ◌&&◌, ◌∷◌}
+use Rattle.laws.specs.{code, ℕ, Bool, true, false, cond, not, List, [], ltb, leb, eqb}
 use Rattle.text_number.specs.declared.Number.{Number}
 
 -- what is below has room for one digit more

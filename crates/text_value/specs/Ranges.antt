@@ -1,5 +1,6 @@
 -- "1 wrong .. form (a well-formed value out of range has its own number)".
-use Rattle.laws.specs.{ℕ, Bool, true, false, cond, ◌||◌, ltb}
+use Rattle.std.specs.Prelude.{◌||◌}
+use Rattle.laws.specs.{ℕ, Bool, true, false, cond, ltb}
 use Rattle.text_number.specs.{Number}
 
 abbrev pub malformed : Number → Bool

@@ -1,6 +1,7 @@
 -- Demand 3 for every list of entries: "Take every list of these steps from an empty holding, refused ones included: opening, sub-area,
 -- clearing, planting, return and withdrawal entries .. Each step gets the holding that the last one left .. and a single table set serves all."
-use Rattle.laws.specs.{ℕ, ◌*◌, ◌≤◌, ◌≡◌, Bool, true, false, List, [], pos, nat_abs, ◌-ℤ◌, ◌*ℤ◌}
+use Rattle.std.specs.Prelude.{◌*◌, ◌≤◌, ◌≡◌, ◌-ℤ◌, ◌*ℤ◌}
+use Rattle.laws.specs.{ℕ, Bool, true, false, List, [], pos, nat_abs}
 use Rattle.std.proofs.Math.Option.{Option, none, some}
 use Rattle.line_entry.specs.{AreaAct}
 use Rattle.holding.specs.{Area, Holding, empty_holding, subs_of, find_area, Found}

@@ -1,5 +1,6 @@
 -- What the plain ledger is fed, and the changes that it gives for an area.
-use Rattle.laws.specs.{ℕ, Bool, true, false, cond, ◌&&◌, List, [], ◌∷◌, ◌++◌, map, eqb, length, keep, ℤ}
+use Rattle.std.specs.Prelude.{◌&&◌, ◌∷◌, ◌++◌}
+use Rattle.laws.specs.{ℕ, Bool, true, false, cond, List, [], map, eqb, length, keep, ℤ}
 use Rattle.std.proofs.Math.Option.{Option, none, some}
 use Rattle.refusals.specs.{Verdict}
 use Rattle.line_entry.specs.{Act, AreaAct}

@@ -1,5 +1,6 @@
 -- What was reported for an area, read off the outcomes of a list of steps, the first first.
-use Rattle.laws.specs.{ℕ, ◌+◌, cond, List, [], ◌∷◌, ◌++◌, foldl, eqb, ℤ, pos, ◌+ℤ◌}
+use Rattle.std.specs.Prelude.{◌+◌, ◌∷◌, ◌++◌, ◌+ℤ◌}
+use Rattle.laws.specs.{ℕ, cond, List, [], foldl, eqb, ℤ, pos}
 use Rattle.units.specs.{value}
 use Rattle.step_outcome.specs.{Report, Outcome}
 use Rattle.theorem_ledger.specs.{lesser}

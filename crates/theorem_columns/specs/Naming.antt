@@ -1,5 +1,6 @@
 -- The kind and the type whose column a T line is. "kind G (stock) or R (residue); type P, D, S, H or N", where "P serves all regions".
-use Rattle.laws.specs.{ℕ, ◌≡◌, List, get_or}
+use Rattle.std.specs.Prelude.{◌≡◌}
+use Rattle.laws.specs.{ℕ, List, get_or}
 use Rattle.forest.specs.{Forest, letters_of}
 use Rattle.schedules.specs.{Kind}
 use Rattle.line_column.specs.{kind_in, type_in}

@@ -1,6 +1,7 @@
 -- Demand 3, whole: "Take every list of these steps from an empty holding, refused ones included: opening, sub-area, clearing, planting, return and
 -- withdrawal entries, and the holding written as a statement and read back."
-use Rattle.laws.specs.{ℕ, Bool, ◌≡◌, List, length}
+use Rattle.std.specs.Prelude.{◌≡◌}
+use Rattle.laws.specs.{ℕ, Bool, List, length}
 use Rattle.std.proofs.Math.Option.{Option}
 use Rattle.line_entry.specs.{AreaAct}
 use Rattle.holding.specs.{Holding, empty_holding}

@@ -1,5 +1,6 @@
 -- "A statement written after the list shows these two totals, the number of returns and the closing stock."
-use Rattle.laws.specs.{ℕ, ◌≡◌, List, [], ◌∷◌, ◌++◌, length, code}
+use Rattle.std.specs.Prelude.{◌≡◌, ◌∷◌, ◌++◌}
+use Rattle.laws.specs.{ℕ, List, [], length, code}
 use Rattle.text.specs.{comma, line_end}
 use Rattle.std.proofs.Math.Option.{Option, none, some}
 use Rattle.theorem_ledger.specs.{Row}

@@ -1,6 +1,7 @@
 -- The steps of demand 3: "Its steps are A, S, C, P, R and W entries and read-backs". `own` is the participant's table: "One participant's table,
 -- or none, is lent unchanged throughout."
-use Rattle.laws.specs.{ℕ, Bool, List, [], ◌∷◌, length, take}
+use Rattle.std.specs.Prelude.{◌∷◌}
+use Rattle.laws.specs.{ℕ, Bool, List, [], length, take}
 use Rattle.refusals.specs.{Verdict, Written, written, buffer_after}
 use Rattle.line_entry.specs.{AreaAct}
 use Rattle.holding.specs.{Holding, empty_area, empty_holding, Found}

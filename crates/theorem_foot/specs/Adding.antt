@@ -1,6 +1,6 @@
 -- "Owners file the sheet whole and want it to add up."
-use Rattle.laws.specs.{ℕ, ◌≤◌, ◌≡◌, List, ◌++◌, length, sum_by, pos, ◌-ℤ◌}
-use Rattle.std.specs.Prelude.{◌<◌}
+use Rattle.laws.specs.{ℕ, List, length, sum_by, pos}
+use Rattle.std.specs.Prelude.{◌<◌, ◌≤◌, ◌≡◌, ◌++◌, ◌-ℤ◌}
 use Rattle.ranges.specs.{last_area}
 use Rattle.book_print.specs.{foot_text, end_text}
 use Rattle.book_listing.specs.{lines_of, longest_book, refused_book, listing_of}

@@ -1,5 +1,6 @@
 -- What the lines of a listing show, read off their bytes: "R: area, first and last year, change, received, due, balance; .. W: area, due".
-use Rattle.laws.specs.{ℕ, zero, suc, ◌+◌, ◌-◌, ◌*◌, Bool, cond, List, foldl, eqb, get_or, code}
+use Rattle.std.specs.Prelude.{◌+◌, ◌-◌, ◌*◌}
+use Rattle.laws.specs.{ℕ, zero, suc, Bool, cond, List, foldl, eqb, get_or, code}
 use Rattle.text.specs.{split, field_at}
 
 -- the number that a field's digits are

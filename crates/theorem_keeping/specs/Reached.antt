@@ -1,6 +1,7 @@
 -- What every list of entries keeps: a statement carries the holding, what stands is in front, and every place behind it is empty, so that two holdings
 -- with the same things standing are the same.
-use Rattle.laws.specs.{ℕ, ◌-◌, true, ◌≡◌, List, [], ◌∷◌, length, drop, replicate}
+use Rattle.std.specs.Prelude.{◌-◌, ◌≡◌, ◌∷◌}
+use Rattle.laws.specs.{ℕ, true, List, [], length, drop, replicate}
 use Rattle.holding.specs.{Area, Holding, most_areas, most_subs, areas_of, empty_sub, opened_with}
 use Rattle.statement_carried.specs.{Limits, limits, carried_within}
 

@@ -1,7 +1,8 @@
 -- "Plain ledger for demand 3": "The ledger has the same tables and is fed each step and whether it was accepted. It starts empty; a refused
 -- step or a read-back changes nothing in it." `own` is the participant's table; the default is Schedule 6.
 -- A sub's residues are read through `sub_stock` alone.
-use Rattle.laws.specs.{ℕ, suc, ◌+◌, ◌-◌, Bool, true, false, cond, List, [], ◌∷◌, ◌++◌, sum_by, ℤ, pos, ◌+ℤ◌, ◌-ℤ◌, eqb}
+use Rattle.std.specs.Prelude.{◌+◌, ◌-◌, ◌∷◌, ◌++◌, ◌+ℤ◌, ◌-ℤ◌}
+use Rattle.laws.specs.{ℕ, suc, Bool, true, false, cond, List, [], sum_by, ℤ, pos, eqb}
 use Rattle.std.specs.Int.Signed.{le_z}
 use Rattle.units.specs.{nearest_tonne}
 use Rattle.forest.specs.{Forest}

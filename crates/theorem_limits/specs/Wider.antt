@@ -1,6 +1,7 @@
 -- Limits that are widened: "A holding with no area above 16 sub-areas is written just as before, and each old statement is still read." (document 02,
 -- item 4)
-use Rattle.laws.specs.{ℕ, ◌-◌, ◌≤◌, ◌≡◌, List, ◌++◌, map, replicate}
+use Rattle.std.specs.Prelude.{◌-◌, ◌≤◌, ◌≡◌, ◌++◌}
+use Rattle.laws.specs.{ℕ, List, map, replicate}
 use Rattle.refusals.specs.{Verdict}
 use Rattle.holding.specs.{Area, Holding, areas_of, subs_of, empty_sub, with_subs}
 use Rattle.statement_carried.specs.{Limits}

@@ -1,5 +1,6 @@
 -- The examples that document 01 marks, each with what it says.
-use Rattle.laws.specs.{ℕ, ◌≡◌, List, [], ◌∷◌, ℤ, pos, negsuc}
+use Rattle.std.specs.Prelude.{◌≡◌, ◌∷◌}
+use Rattle.laws.specs.{ℕ, List, [], ℤ, pos, negsuc}
 use Rattle.units.specs.{nearest_tonne}
 use Rattle.refusals.specs.{Refusal}
 use Rattle.forest.specs.{Forest, Region}

@@ -1,6 +1,6 @@
 -- A book listed in parts, as `book` prints it.
-use Rattle.laws.specs.{ℕ, ◌≤◌, List, [], ◌∷◌, ◌++◌, length}
-use Rattle.std.specs.Prelude.{◌<◌}
+use Rattle.laws.specs.{ℕ, List, [], length}
+use Rattle.std.specs.Prelude.{◌<◌, ◌≤◌, ◌∷◌, ◌++◌}
 use Rattle.book_reached.specs.{Reached}
 use Rattle.book_run.specs.{Part}
 use Rattle.book_parts.specs.{part_of, ComesTo}

@@ -1,5 +1,6 @@
 -- The listing of a book, whose T lines come before the first area.
-use Rattle.laws.specs.{ℕ, Bool, List, [], ◌∷◌, ◌++◌, get_or, keep}
+use Rattle.std.specs.Prelude.{◌∷◌, ◌++◌}
+use Rattle.laws.specs.{ℕ, Bool, List, [], get_or, keep}
 use Rattle.text.specs.{line_end}
 use Rattle.line_entry.specs.{AreaAct}
 use Rattle.line.specs.{entry_of}

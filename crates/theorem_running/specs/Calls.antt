@@ -1,6 +1,7 @@
 -- Lines sent one by one through the call, refused ones included: each call is given the statement and the table that the last accepted ones wrote,
 -- and one output, of any length and content.
-use Rattle.laws.specs.{ℕ, List, [], ◌∷◌, ◌++◌, length, ℤ, pos, negsuc}
+use Rattle.std.specs.Prelude.{◌∷◌, ◌++◌}
+use Rattle.laws.specs.{ℕ, List, [], length, ℤ, pos, negsuc}
 use Rattle.table_bytes.specs.{numbers_of}
 use Rattle.line_entry.specs.{AreaAct}
 use Rattle.line.specs.{entry_of}

@@ -1,5 +1,6 @@
 -- Demand 3 for what runs: the accepted lines are steps of demand 3, under the one table that stands after them all.
-use Rattle.laws.specs.{ℕ, Bool, true, ◌≡◌, List, [], ◌∷◌, map, every}
+use Rattle.std.specs.Prelude.{◌≡◌, ◌∷◌}
+use Rattle.laws.specs.{ℕ, Bool, true, List, [], map, every}
 use Rattle.line_entry.specs.{AreaAct, Entry, Parsed}
 use Rattle.step_outcome.specs.{Outcome}
 use Rattle.statement_format.specs.{texts, statement_of}

@@ -1,5 +1,6 @@
 -- "Importing an export onto the book's accepted A entries alone must give those S entries back."
-use Rattle.laws.specs.{ℕ, Bool, true, false, ◌||◌, ◌≡◌, List, map, keep}
+use Rattle.std.specs.Prelude.{◌||◌, ◌≡◌}
+use Rattle.laws.specs.{ℕ, Bool, true, false, List, map, keep}
 use Rattle.refusals.specs.{Verdict}
 use Rattle.line_entry.specs.{Act, AreaAct, Entry, Parsed}
 use Rattle.line.specs.{entry_of}

@@ -1,5 +1,6 @@
 -- An import as steps of demand 3, so that what demand 3 says of balances covers land that was imported.
-use Rattle.laws.specs.{ℕ, true, ◌≡◌, List, [], ◌∷◌, ◌++◌, length, every}
+use Rattle.std.specs.Prelude.{◌≡◌, ◌∷◌, ◌++◌}
+use Rattle.laws.specs.{ℕ, true, List, [], length, every}
 use Rattle.refusals.specs.{Verdict}
 use Rattle.line_entry.specs.{AreaAct}
 use Rattle.line.specs.{entry_of}

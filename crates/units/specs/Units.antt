@@ -1,5 +1,6 @@
 -- "Tenths of a hectare, tenths of a tonne per hectare and kilograms are three units. Tenth times tenth is 10 kg, so stocks are exact in kilograms."
-use Rattle.laws.specs.{ℕ, ◌+◌, ◌*◌, ◌/◌, suc, ◌-◌, min, cond, leb, ℤ, pos, negsuc, neg_ℤ}
+use Rattle.std.specs.Prelude.{◌+◌, ◌*◌, ◌/◌, ◌-◌}
+use Rattle.laws.specs.{ℕ, suc, min, cond, leb, ℤ, pos, negsuc, neg_ℤ}
 use Rattle.units.specs.declared.Tenths.{Tenths}
 use Rattle.units.specs.declared.Rate.{Rate}
 use Rattle.units.specs.declared.Kilograms.{Kilograms}
