@@ -44,6 +44,7 @@ fn lend<'a>(table: &'a [u16]) -> LentTable<'a>
     }
 }
 
+#[tactic(auto, unfolding(crate::specs::Lent::lent_column))]
 fn column_in(cells: &[u16], lengths: [u16; COLUMNS], number: usize) -> &[u16]
     ensures { result.now ≡ lent_column cells.now lengths number }
 {

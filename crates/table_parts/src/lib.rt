@@ -21,6 +21,7 @@ pub fn is_type(letter: u8) -> bool
 }
 
 // The number of a column by the letters of its kind and its type; where it is none, ten or above.
+#[tactic(auto, unfolding(crate::specs::Order::column_number))]
 pub fn column_number(kind: u8, letter: u8) -> usize
     ensures { result ≡ column_number kind letter }
 {
@@ -55,6 +56,7 @@ pub fn column_length(table: &[u16], number: usize) -> usize
 }
 
 // How many cells lie before those of a column, by its number; past the last number, how many there are.
+#[tactic(auto, unfolding(laws::specs::Lists::sum_of))]
 pub fn cells_before(table: &[u16], number: usize) -> usize
     ensures { result ≡ sum_of (take number (lengths_of table.now)) }
 {
