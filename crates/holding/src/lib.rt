@@ -122,6 +122,7 @@ pub fn numbers_of(holding: Holding) -> [u16; MOST_AREAS]
 }
 
 // The place of the standing area with the number.
+#[tactic(auto, unfolding(crate::specs::Areas::find_area, crate::specs::Areas::place_from))]
 pub fn find_area(holding: Holding, number: u16) -> Found
     ensures { result ≡ find_area holding number }
 {
@@ -140,6 +141,7 @@ pub fn find_area(holding: Holding, number: u16) -> Found
 }
 
 // The place of the standing sub-area with the number.
+#[tactic(auto, unfolding(crate::specs::Areas::find_sub, crate::specs::Areas::place_from))]
 pub fn find_sub(area: Area, number: u16) -> Found
     ensures { result ≡ find_sub area number }
 {

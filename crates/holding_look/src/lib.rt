@@ -17,6 +17,7 @@ pub fn is_known(found: Found) -> bool
 }
 
 // The area at a place: the holding is copied only where there is one.
+#[tactic(auto, unfolding(crate::specs::Standing::area_at))]
 fn area_in(holding: Holding, i: usize) -> Area
     requires { i < most_areas }
     ensures { result ≡ area_at holding (Found.At i) }
@@ -25,6 +26,7 @@ fn area_in(holding: Holding, i: usize) -> Area
 }
 
 // The area there, the empty one where none stands.
+#[tactic(auto, unfolding(crate::specs::Standing::area_at))]
 fn area_at(holding: Holding, found: Found) -> Area
     ensures { result ≡ area_at holding found }
 {
@@ -79,6 +81,7 @@ fn no_stand() -> Stand
 }
 
 // The standing sub-area with the number, in one search.
+#[tactic(auto, unfolding(holding::specs::Areas::find_sub, crate::specs::Standing::sub_at, holding::specs::Areas::place_from))]
 pub fn find_stand(area: Area, number: u16) -> Stand
     ensures found_value { result.found ≡ find_sub area number }
     ensures sub_value { result.sub ≡ sub_at area (find_sub area number) }
@@ -119,6 +122,7 @@ fn later(year: u16, other: u16) -> u16
 }
 
 // The area with a sub-area put back at its place, after a clearing or planting in a year: the latest year is the greatest.
+#[tactic(auto, unfolding(crate::specs::Standing::with_sub))]
 pub fn with_sub(area: Area, found: Found, sub: Sub, year: u16) -> Area
     ensures { result ≡ with_sub area found sub year }
 {
