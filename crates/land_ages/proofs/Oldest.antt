@@ -24,6 +24,7 @@ of_its_type forest g e = eq-eqb (order_of g.forest) (order_of forest) (ap order_
 module _ (forest : Forest) where
   not_passed : (gs : List Group) (h : Group) → Memᴰ h gs → of_type forest h ≡ true → h.age ≤ greatest_age gs forest
   unfolding greatest_age
+  not_passed [] h x'' t = elim x'' [ ]
   not_passed (g ∷ gs) h (Memᴰ.head e) t = rw (← e, t) (omega arith)
   not_passed (g ∷ gs) h (Memᴰ.tail m) t = omega (arith, not_passed gs h m t)
 

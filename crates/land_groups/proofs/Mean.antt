@@ -42,5 +42,6 @@ module _ (forest : Forest) (lo hi : ℕ) where
 -- a type that has a group with some basal area has some
 pub area_positive : (forest : Forest) (g : Group) (gs : List Group) → Memᴰ g gs → of_type forest g ≡ true → 0 < area g → 0 < sum_over (of_type forest) area gs
 unfolding sum_by
+area_positive forest g [] x3 t z = elim x3 [ ]
 area_positive forest g (h ∷ gs) (Memᴰ.head e) t z = rw (← e, t) (omega arith)
 area_positive forest g (h ∷ gs) (Memᴰ.tail m) t z = omega (arith, area_positive forest g gs m t z)
