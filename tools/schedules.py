@@ -46,8 +46,23 @@ def table(columns, schedule, kind):
     return [columns[schedule, kind, forest] for forest in TYPES]
 
 
-def constant(name, kind, items):
-    return f"pub const {name}: [{kind}; {len(items)}] = [\n" + "".join(f"    {i},\n" for i in items) + "];\n"
+def filled(numbers):
+    """Numbers in lines of 99 columns at most, as `rt fmt` lays them out."""
+    lines = []
+    for number in numbers:
+        if lines and len(f"{lines[-1]} {number},") <= 99:
+            lines[-1] += f" {number},"
+        else:
+            lines.append(f"    {number},")
+    return lines
+
+
+def constant(name, kind, lines, count):
+    return f"pub const {name}: [{kind}; {count}] = [\n" + "".join(f"{line}\n" for line in lines) + "];\n"
+
+
+def numbers(name, items):
+    return constant(name, "u16", filled(items), len(items))
 
 
 def cells(columns):
@@ -74,7 +89,7 @@ def by_type(name, kind, columns, start):
     of = dict(zip(["B"] + TYPES, places(columns, start, lambda f: " " * (12 if f.startswith("P") else 8))))
     regions = "".join(f"            Region::{region} => {of[f'P{n}']},\n" for n, region in enumerate(REGIONS, 1))
     others = "".join(f"        Forest::{forest} => {of[letter]},\n" for letter, forest in OTHERS)
-    return (f"pub fn {name}(forest: Forest) -> Place\n    ensures {{ λ r. ⌜ r ≡ placeSix Kind.{kind} forest ⌝ }}\n{{\n"
+    return (f"pub fn {name}(forest: Forest) -> Place\n    ensures {{ result ≡ place_six Kind.{kind} forest }}\n{{\n"
             f"    match forest {{\n        Forest::Bare => {of['B']},\n        Forest::Radiata(region) => match region {{\n{regions}        }},\n"
             f"{others}    }}\n}}\n")
 
@@ -82,11 +97,11 @@ def by_type(name, kind, columns, start):
 def code(four, stock, residue):
     return "\n".join([
         f"// {SOURCE}\n// The cells of Schedules 4 and 6 in tenths of a tonne per hectare, column after column, and the columns' places.\n"
-        "ghost use mathlib.Core.Path.{_≡_};\n"
-        "ghost use Rattle·schedules·specs.specs.{Kind, placeSix};\nuse super::Place;\nuse forest::Forest;\nuse forest::Region;\n",
-        constant("SCHEDULE_FOUR", "u16", cells(four)),
-        constant("SCHEDULE_SIX", "u16", cells(stock) + cells(residue)),
-        constant("PLACES_FOUR", "Place", places(four, 0, lambda _: " " * 4)),
+        "ghost use Rattle.std.specs.Prelude.{◌≡◌};\n"
+        "ghost use Rattle.schedules.specs.{Kind, place_six};\n\nuse super::Place;\nuse forest::{Forest, Region};\n",
+        numbers("SCHEDULE_FOUR", cells(four)),
+        numbers("SCHEDULE_SIX", cells(stock) + cells(residue)),
+        constant("PLACES_FOUR", "Place", [f"    {row}," for row in places(four, 0, lambda _: " " * 4)], len(four) + 1),
         by_type("stock_place", "Stock", stock, 0),
         by_type("residue_place", "Residue", residue, len(cells(stock))),
     ])
@@ -104,7 +119,7 @@ def definition(name, title, columns):
 def specs(four, stock, residue):
     return "\n".join([
         f"-- {SOURCE}\n-- The columns of Schedules 4 and 6 (002, Appendix 2): the first listed age, then a cell for each age in tenths of a tonne per hectare.",
-        "use Rattle·laws.specs.{List, [], _∷_}\nuse Rattle·schedules·specs.specs.Columns.{Column, listed}\n",
+        "use Rattle.std.specs.Prelude.{◌∷◌}\nuse Rattle.laws.specs.{List, []}\nuse Rattle.schedules.specs.Columns.{Column, listed}\n",
         definition("stock4", "Schedule 4, pre-1990 forest land: carbon stock", four),
         definition("stock6", "Schedule 6, post-1989 forest land: carbon stock", stock),
         definition("residue6", "Schedule 6, post-1989 forest land: residue of cleared trees", residue),
