@@ -1,9 +1,9 @@
 #!/usr/bin/env python3
-"""Reads why each must-fail edit was refused: the first error of target/must-fail/CRATE/LABEL/.log, which `rt ci` leaves.
+"""Reads in target/gate.log why each must-fail edit was refused that `rt ci` tried in that run; those that it kept from an earlier run of the same
+files have no line there, and its line `rt: ok` counts them all.
 
-An edit is a wrong program, and is to be refused because a fact no longer holds. One whose first error is only that a name is not there says
-nothing of the program and fails this check, unless its code is walked by hand: a walk names every operand, so that no other one fits it.
-`tools/edits.py --all` prints the first error of each.
+An edit is a wrong program, and is to be refused because a fact no longer holds. One that is bad, is not refused, or is refused only because a name is
+not there, says nothing of the program and fails this check. `tools/edits.py --all` prints the first error of each.
 """
 
 import re
@@ -11,54 +11,46 @@ import sys
 from pathlib import Path
 
 ROOT = Path(__file__).resolve().parent.parent
-LOGS = ROOT / "target/must-fail"
-ERROR = re.compile(r"^(?:note: )?(?:\S+):\d+:\d+: (?:error: (?:`(?P<declared>[^`]+)`: )?(?P<said>.*)|(?P<unproved>it is not proved that .*)\(`(?P<need>[^`]+)`\))$", re.M)
-NAME = re.compile(r"is not in scope|can be named from here|has no field|has no `[^`]+` that")
-WALK = re.compile(r"^walk|^gathers|^runs")
-RANGE = re.compile(r"^(?:add|sub|mul|neg|cast|div|rem|element|slice|index)-")
+LOG = ROOT / "target/gate.log"
+TRIED = re.compile(r"^rt: must-fail (\S+/\S+?)(?:\.edit)?: (.*)$", re.M)
+OK = re.compile(r"^rt: ok;.*?must-fail edits: (\d+) refused(.*)$", re.M)
+NEED = re.compile(r"it is not proved that .*\(`([^`]+)`\)|error: `([^`]+)`")
+RANGE = re.compile(r"^(?:overflow_|nonzero_|bounds-|slice_bounds-|offset_bounds-)")
 
 
-def first_error(log):
-    """The declaration or the need that failed first, and what was said of it, with the line behind; what only follows from another is passed over.
-    A function without a proof file has notes alone."""
-    text = log.read_text(errors="replace") if log.is_file() else ""
-    for found in ERROR.finditer(text):
-        said = found["said"] or found["unproved"]
-        if "was not admitted" not in said:
-            behind = text[found.end() :].lstrip("\n").split("\n", 1)[0]
-            return found["declared"] or found["need"] or "", f"{said} {behind.strip()}"
-    return "", ""
-
-
-def kind(declaration, message):
-    if not message:
-        return "none"
-    if NAME.search(message):
+def kind(said):
+    if not said.startswith("refused, as it must be"):
+        return "bad"
+    if "only because a proof file names" in said:
         return "name"
-    if WALK.search(declaration):
-        return "walk"
-    return "range" if RANGE.search(declaration) else "fact"
+    if "only by a limit" in said:
+        return "limit"
+    need = NEED.search(said)
+    return "range" if need and RANGE.search(need[1] or need[2]) else "fact"
 
 
 def main():
-    edits = sorted(ROOT.glob("crates/*/must-fail/*.edit"))
-    kinds = {"fact": [], "range": [], "walk": [], "name": [], "none": []}
-    for edit in edits:
-        label = f"{edit.parts[-3]}/{edit.stem}"
-        log = LOGS / edit.parts[-3] / edit.stem / ".log"
-        declaration, message = first_error(log)
-        kinds[kind(declaration, message)].append(label)
+    text = LOG.read_text(errors="replace")
+    kinds = {"fact": [], "range": [], "limit": [], "name": [], "bad": []}
+    for label, said in TRIED.findall(text):
+        kinds[kind(said)].append(label)
         if "--all" in sys.argv:
-            print(f"{label}: {kind(declaration, message)}: {declaration}: {message[:300]}")
-    for label in kinds["none"]:
-        print(f"{label}: no log says why it was refused")
+            print(f"{label}: {kind(said)}: {said[:300]}")
+    for label in kinds["bad"]:
+        print(f"{label}: it was not refused, or could not be tried")
     for label in kinds["name"]:
         print(f"{label}: it was refused only because a name is not there")
+    edits = len(list(ROOT.glob("crates/*/must-fail/*.edit")))
+    ok = OK.search(text)
+    every = ok is not None and int(ok[1]) == edits and ", bad" not in ok[2] and " bad" not in ok[2].split(";")[0]
+    if not every:
+        print(f"rt ci does not say that all {edits} must-fail edits are refused")
+    tried = sum(map(len, kinds.values()))
     print(
-        f"of {len(edits)} must-fail edits {len(kinds['fact'])} are refused at a fact, {len(kinds['range'])} at a number's range, "
-        f"{len(kinds['walk'])} at a walk by hand"
+        f"of {edits} must-fail edits {tried} were tried in this run: {len(kinds['fact'])} are refused at a fact, {len(kinds['range'])} at a number's range, "
+        f"{len(kinds['limit'])} at a limit of the prover"
     )
-    sys.exit(1 if kinds["none"] or kinds["name"] else 0)
+    sys.exit(0 if every and not kinds["bad"] and not kinds["name"] else 1)
 
 
 main()

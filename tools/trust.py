@@ -82,7 +82,7 @@ def not_passed_on():
 
 def citing_proofs():
     files = sorted([*CRATES.glob("*/src/*.rt"), *CRATES.glob("*/specs/*.antt")])
-    cites = re.compile(r"^(?:ghost |unfoldable |pub )*use \S*\.proofs\.", re.M)
+    cites = re.compile(r"^(?:ghost |unfoldable |pub )*use (?!Rattle\.std\.)\S*\.proofs\.", re.M)
     return [f"{file.relative_to(ROOT)} cites a proof" for file in files if cites.search(file.read_text())]
 
 
