@@ -62,6 +62,7 @@ pub fn weigh_carried(so_far: Verdict, found: Found, area: Area) -> Verdict
 }
 
 // 11, 22, 23: for a step of an area that was looked up.
+#[tactic(auto, unfolding(refusals::specs::Refusals::weigh_all, crate::specs::Outcomes::area_cases, refusals::specs::Refusals::weighed))]
 pub fn weigh_area(so_far: Verdict, found: Found, area: Area) -> Verdict
     ensures { result ≡ weigh_all so_far (area_cases found area) }
 {
@@ -72,6 +73,7 @@ pub fn weigh_area(so_far: Verdict, found: Found, area: Area) -> Verdict
 }
 
 // The holding after a step: the area that comes to stand is placed.
+#[tactic(auto, unfolding(crate::specs::Outcomes::placed))]
 pub fn place(holding: Holding, outcome: Outcome) -> Holding
     ensures { result ≡ placed holding outcome }
 {
