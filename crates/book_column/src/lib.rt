@@ -1,6 +1,6 @@
+// A T line's turn in a book: the table longer in place.
 #![tactic(auto)]
 
-// A T line's turn in a book: the table longer in place.
 ghost use Rattle.std.specs.Prelude.{◌≡◌, take};
 ghost use Rattle.table_grow.specs.{growable};
 ghost use Rattle.book_column.specs.{column_numbers, column_count};

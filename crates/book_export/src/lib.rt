@@ -1,6 +1,6 @@
+// Which lines of a book its export has.
 #![tactic(auto)]
 
-// Which lines of a book its export has.
 ghost use Rattle.std.specs.Prelude.{◌≡◌};
 ghost use Rattle.book_export.specs.{adds, is_addition, is_exported};
 

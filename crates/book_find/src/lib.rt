@@ -1,6 +1,6 @@
+// The area that a line of a book names.
 #![tactic(auto)]
 
-// The area that a line of a book names.
 ghost use Rattle.std.specs.Prelude.{◌≡◌, take};
 ghost use Rattle.book_find.specs.{place_in, nothing_named, named_by};
 

@@ -1,6 +1,6 @@
+// The foot of a listing: the units of all areas, withdrawn ones included.
 #![tactic(auto)]
 
-// The foot of a listing: the units of all areas, withdrawn ones included.
 ghost use Rattle.std.specs.Prelude.{true, ◌≡◌};
 ghost use Rattle.holding_look.specs.{units_of};
 ghost use Rattle.statement_field.specs.{Put};

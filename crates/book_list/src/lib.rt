@@ -1,6 +1,6 @@
+// Lists a book into a lent buffer.
 #![tactic(auto)]
 
-// Lists a book into a lent buffer.
 ghost use Rattle.std.specs.Prelude.{◌≡◌, length};
 ghost use Rattle.book_listing.specs.{listing_of};
 ghost use Rattle.refusals.specs.{written, buffer_after};

@@ -1,6 +1,6 @@
+// What is put for each line of a book.
 #![tactic(auto)]
 
-// What is put for each line of a book.
 ghost use Rattle.std.specs.Prelude.{◌≡◌, ◌≤◌};
 ghost use Rattle.book_print.specs.{report_width};
 ghost use Rattle.statement_field.specs.{Put};

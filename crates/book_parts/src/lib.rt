@@ -1,6 +1,6 @@
+// The listing of a book, a part at a time or whole.
 #![tactic(auto)]
 
-// The listing of a book, a part at a time or whole.
 ghost use Rattle.std.specs.Prelude.{◌+◌};
 ghost use Rattle.text.specs.{Wrote};
 ghost use Rattle.statement_field.specs.{Put};

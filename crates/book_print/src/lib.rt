@@ -1,6 +1,6 @@
+// What is printed of a line and of a book, put into a lent buffer at any place.
 #![tactic(auto)]
 
-// What is printed of a line and of a book, put into a lent buffer at any place.
 ghost use Rattle.std.specs.Prelude.{◌∷◌, [], ◌+◌, ◌*◌};
 ghost use Rattle.statement_format.specs.{start_text, number_text, joined, start_width, short_width, long_width};
 ghost use Rattle.statement_field.specs.{Put};

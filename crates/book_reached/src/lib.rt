@@ -1,6 +1,6 @@
+// What the lines of a book have come to, and whether a book can have come so far.
 #![tactic(auto)]
 
-// What the lines of a book have come to, and whether a book can have come so far.
 ghost use Rattle.std.specs.Prelude.{◌≡◌};
 ghost use Rattle.book_reached.specs.{may_run, nothing_reached};
 

@@ -1,3 +1,2 @@
-#![tactic(auto)]
-
 // Room for any listing. No code.
+#![tactic(auto)]

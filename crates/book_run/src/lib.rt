@@ -1,6 +1,6 @@
+// Runs the lines of a book, on one holding and one table, and puts what each prints, or the rows of its accepted S entries.
 #![tactic(auto)]
 
-// Runs the lines of a book, on one holding and one table, and puts what each prints, or the rows of its accepted S entries.
 ghost use Rattle.std.specs.Prelude.{◌≡◌, ◌≤◌, length, take};
 ghost use Rattle.table.specs.{longest_table};
 ghost use Rattle.book_reached.specs.{may_run_from};

@@ -1,3 +1,2 @@
-#![tactic(auto)]
-
 // What a call answers and writes, and the order of its parts. No code.
+#![tactic(auto)]

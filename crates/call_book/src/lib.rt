@@ -1,3 +1,2 @@
-#![tactic(auto)]
-
 // A book run line by line through the call. No code.
+#![tactic(auto)]

@@ -1,6 +1,6 @@
+// A call's column of a table: what refuses it, by the table and by the statement.
 #![tactic(auto)]
 
-// A call's column of a table: what refuses it, by the table and by the statement.
 ghost use Rattle.std.specs.Prelude.{◌≡◌, take};
 ghost use Rattle.call_column.specs.{cells_verdict};
 

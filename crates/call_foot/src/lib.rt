@@ -1,6 +1,6 @@
+// The foot of a statement, for a recorder's own program.
 #![tactic(auto)]
 
-// The foot of a statement, for a recorder's own program.
 ghost use Rattle.std.specs.Prelude.{◌≡◌, length};
 ghost use Rattle.refusals.specs.{written, buffer_after};
 ghost use Rattle.statement.specs.{read_of};

@@ -1,6 +1,6 @@
+// A sheet imported by a recorder's own program, onto the holding that a statement carries.
 #![tactic(auto)]
 
-// A sheet imported by a recorder's own program, onto the holding that a statement carries.
 ghost use Rattle.std.specs.Prelude.{◌≡◌};
 ghost use Rattle.call_output.specs.{Gives};
 ghost use Rattle.sheet_import.specs.{onto_bytes};

@@ -1,6 +1,6 @@
+// The call of a recorder's own program: its verdict, and what it writes.
 #![tactic(auto)]
 
-// The call of a recorder's own program: its verdict, and what it writes.
 ghost use Rattle.std.specs.Prelude.{◌≡◌, length, take, true};
 ghost use Rattle.refusals.specs.{written};
 ghost use Rattle.line.specs.{is_column_line};

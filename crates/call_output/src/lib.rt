@@ -1,6 +1,6 @@
+// What a call writes: a longer table, or a statement with one area changed and the report behind it.
 #![tactic(auto)]
 
-// What a call writes: a longer table, or a statement with one area changed and the report behind it.
 ghost use Rattle.std.specs.Prelude.{◌≡◌, ◌+◌, ◌*◌, ◌≤◌, leb, length};
 ghost use Rattle.std.proofs.lemmas.List.Edits.{sets};
 ghost use Rattle.refusals.specs.{written, buffer_after};

@@ -1,6 +1,6 @@
+// A call's act on an area: a step of the holding that the statement carries, under a table's numbers, and the statement after it.
 #![tactic(auto)]
 
-// A call's act on an area: a step of the holding that the statement carries, under a table's numbers, and the statement after it.
 ghost use Rattle.std.specs.Prelude.{◌≡◌};
 ghost use Rattle.schedules.specs.{schedule6};
 ghost use Rattle.holding_look.specs.{Looked};

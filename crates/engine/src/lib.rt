@@ -1,7 +1,7 @@
-#![tactic(auto)]
-
 // The calls of a recorder's own program: one takes a line by a statement and a table, one gives the foot of a statement, one adds the sub-areas of a sheet,
 // and one exports those of a book.
+#![tactic(auto)]
+
 ghost use Rattle.std.specs.Prelude.{◌≡◌, length};
 ghost use Rattle.call_answer.specs.{call_answer, call_output};
 ghost use Rattle.call_foot.specs.{foot_answer, foot_output};

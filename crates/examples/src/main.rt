@@ -1,7 +1,7 @@
-#![tactic(auto)]
-
 // Prints what the engine answers to the examples of document 01 that carry no mark, and to those of the guide (002).
 // What the documents say is in the file `stdout`, which the gate compares.
+#![tactic(auto)]
+
 mod cells;
 mod land;
 mod lines;

@@ -1,6 +1,6 @@
+// Forest types: their letters, read and written, and their order.
 #![tactic(auto)]
 
-// Forest types: their letters, read and written, and their order.
 ghost use Rattle.std.specs.Prelude.{◌≡◌};
 ghost use Rattle.forest.specs.{region_number, digit_of, letters_written, letter_names, region_names, named, order_of, same_type};
 

@@ -1,6 +1,6 @@
+// The state of the accounts: a holding of accounting areas, each of sub-areas, by value.
 #![tactic(auto)]
 
-// The state of the accounts: a holding of accounting areas, each of sub-areas, by value.
 ghost use Rattle.std.specs.Prelude.{◌≡◌, replicate};
 ghost use Rattle.holding.specs.{most_subs, empty_sub, empty_area, empty_holding, numbers_in, find_area, find_sub};
 

@@ -1,6 +1,6 @@
+// What stands at a place that a search found, an area looked up by its number, and an area with a sub-area put back.
 #![tactic(auto)]
 
-// What stands at a place that a search found, an area looked up by its number, and an area with a sub-area put back.
 ghost use Rattle.std.specs.Prelude.{◌≡◌, ◌<◌, max};
 ghost use Rattle.holding.specs.{Found, empty_sub, most_areas, find_sub};
 ghost use Rattle.holding_look.specs.{known, area_at, looked_up, sub_at, with_sub};

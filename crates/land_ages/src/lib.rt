@@ -1,6 +1,6 @@
+// The age of a hectare by its type, from its tree groups, the first `count` of the array.
 #![tactic(auto)]
 
-// The age of a hectare by its type, from its tree groups, the first `count` of the array.
 ghost use Rattle.std.specs.Prelude.{◌≡◌, max, take};
 ghost use Rattle.land_groups.specs.{of_type};
 ghost use Rattle.land_ages.specs.{age_if, greatest_age, hectare_age};

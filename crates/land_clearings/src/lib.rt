@@ -1,6 +1,6 @@
+// Clearings of trees, and those whose trees count for pre-1990 forest land.
 #![tactic(auto)]
 
-// Clearings of trees, and those whose trees count for pre-1990 forest land.
 ghost use Rattle.std.specs.Prelude.{◌≡◌, cond, take};
 ghost use Rattle.land_clearings.specs.{age_of, within, older, elder, counting_of};
 

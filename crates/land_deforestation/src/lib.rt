@@ -1,6 +1,6 @@
+// Deforestation of pre-1990 forest land: the emissions of parcels, the first `count` of the array.
 #![tactic(auto)]
 
-// Deforestation of pre-1990 forest land: the emissions of parcels, the first `count` of the array.
 ghost use Rattle.std.specs.Prelude.{◌≡◌, ◌*◌, ◌≤◌, take};
 ghost use Rattle.refusals.specs.{smallest};
 ghost use Rattle.land_deforestation.specs.{faults_among, cases, emitted_of, total_of, emissions_of};

@@ -1,7 +1,7 @@
-#![tactic(auto)]
-
 // The tree groups of one hectare: basal area by species, and the mean age of a type.
 // The groups are the first `count` of the array.
+#![tactic(auto)]
+
 ghost use Rattle.std.specs.Prelude.{◌≡◌, cond, ◌≤◌, take};
 ghost use Rattle.land_groups.specs.{area, weighted_age, species_area, weights_of, mean_age};
 

@@ -1,6 +1,6 @@
+// A parcel of pre-1990 forest land that is deforested: the trees that count, and what refuses the parcel.
 #![tactic(auto)]
 
-// A parcel of pre-1990 forest land that is deforested: the trees that count, and what refuses the parcel.
 ghost use Rattle.std.specs.Prelude.{◌≡◌, take};
 ghost use Rattle.land_parcels.specs.{own_clearing, counted_of, clears_bare, off_years, out_of_years, misordered, amiss_of, faults_of};
 

@@ -1,6 +1,6 @@
+// The predominant species of a hectare's tree groups, the first `count` of the array.
 #![tactic(auto)]
 
-// The predominant species of a hectare's tree groups, the first `count` of the array.
 ghost use Rattle.std.specs.Prelude.{◌≡◌, take};
 ghost use Rattle.land_predominance.specs.{comes_before, leading, predominant_of};
 

@@ -1,6 +1,6 @@
+// The forest type and the age of one hectare, from its tree groups.
 #![tactic(auto)]
 
-// The forest type and the age of one hectare, from its tree groups.
 ghost use Rattle.std.specs.Prelude.{◌≡◌, take};
 ghost use Rattle.laws.specs.{some};
 ghost use Rattle.refusals.specs.{smallest};

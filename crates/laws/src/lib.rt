@@ -1,3 +1,2 @@
-#![tactic(auto)]
-
 // Laws of lists, tests and integers that the other crates cite. No code.
+#![tactic(auto)]

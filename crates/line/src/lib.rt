@@ -1,6 +1,6 @@
+// A line, with its end or without, to an entry or a refusal.
 #![tactic(auto)]
 
-// A line, with its end or without, to an entry or a refusal.
 ghost use Rattle.std.specs.Prelude.{◌≡◌, length};
 ghost use Rattle.refusals.specs.{buffer_after};
 ghost use Rattle.line_entry.specs.{parsed_by};

@@ -1,6 +1,6 @@
+// The entries of an accounting area: A opens it, R files a return, W withdraws it.
 #![tactic(auto)]
 
-// The entries of an accounting area: A opens it, R files a return, W withdraws it.
 ghost use Rattle.std.specs.Prelude.{◌≡◌};
 ghost use Rattle.text.specs.{split};
 ghost use Rattle.line_entry.specs.{parsed_by, open_rule, file_rule, withdraw_rule};

@@ -1,6 +1,6 @@
+// The cells of a T line: judged one after the other, and their tenths kept.
 #![tactic(auto)]
 
-// The cells of a T line: judged one after the other, and their tenths kept.
 ghost use Rattle.std.specs.Prelude.{◌≡◌, set};
 ghost use Rattle.std.proofs.lemmas.List.Edits.{sets};
 ghost use Rattle.text.specs.{split};

@@ -1,6 +1,6 @@
+// The T entry: a column of the participant's table.
 #![tactic(auto)]
 
-// The T entry: a column of the participant's table.
 ghost use Rattle.std.specs.Prelude.{◌≡◌, ◌-◌, ◌≤◌, length};
 ghost use Rattle.std.proofs.lemmas.List.Edits.{sets};
 ghost use Rattle.text.specs.{split};

@@ -1,6 +1,6 @@
+// The entries of a book, and the judging that their letters share.
 #![tactic(auto)]
 
-// The entries of a book, and the judging that their letters share.
 ghost use Rattle.std.specs.Prelude.{◌≡◌, eqb, not, ◌||◌};
 ghost use Rattle.text_number.specs.{number_in};
 ghost use Rattle.text_value.specs.{malformed};

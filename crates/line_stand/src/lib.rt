@@ -1,6 +1,6 @@
+// The entries of a sub-area's stand: C clears it, P plants it.
 #![tactic(auto)]
 
-// The entries of a sub-area's stand: C clears it, P plants it.
 ghost use Rattle.std.specs.Prelude.{◌≡◌};
 ghost use Rattle.text.specs.{split};
 ghost use Rattle.line_entry.specs.{parsed_by, clear_rule, plant_rule};

@@ -1,6 +1,6 @@
+// The entry of a sub-area: S adds it.
 #![tactic(auto)]
 
-// The entry of a sub-area: S adds it.
 ghost use Rattle.std.specs.Prelude.{◌≡◌};
 ghost use Rattle.text.specs.{split};
 ghost use Rattle.line_entry.specs.{parsed_by, add_rule};

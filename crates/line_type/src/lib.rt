@@ -1,6 +1,6 @@
+// What the type that a line names allows.
 #![tactic(auto)]
 
-// What the type that a line names allows.
 ghost use Rattle.std.specs.Prelude.{◌≡◌};
 ghost use Rattle.line_type.specs.{unlisted, unplantable, misdated_if, misdated, forest_of};
 

@@ -1,6 +1,6 @@
+// The ranges of document 01's entries, which the fields of a carried statement keep too.
 #![tactic(auto)]
 
-// The ranges of document 01's entries, which the fields of a carried statement keep too.
 ghost use Rattle.std.specs.Prelude.{◌≡◌, ◌-◌};
 ghost use Rattle.ranges.specs.{is_bare, is_area, is_sub, is_year, is_land, is_planted};
 

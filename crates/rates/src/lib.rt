@@ -1,6 +1,6 @@
+// The column consulted, the look-up of a cell by age, and the decay of residue.
 #![tactic(auto)]
 
-// The column consulted, the look-up of a cell by age, and the decay of residue.
 ghost use Rattle.std.specs.Prelude.{◌≡◌};
 ghost use Rattle.schedules.specs.{Kind, listed};
 ghost use Rattle.rates.specs.{own_number, column_of, first_age, cell_at, rate_six, rate_four, share_after};

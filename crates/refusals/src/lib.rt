@@ -1,6 +1,6 @@
+// Refusals under the numbers of documents 01 and 02, the smallest that applies, and what a write into a lent buffer answers.
 #![tactic(auto)]
 
-// Refusals under the numbers of documents 01 and 02, the smallest that applies, and what a write into a lent buffer answers.
 ghost use Rattle.std.specs.Prelude.{◌≡◌};
 ghost use Rattle.refusals.specs.{number_of, weighed, smaller};
 

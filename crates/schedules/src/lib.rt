@@ -1,6 +1,6 @@
+// The default tables: Schedules 4 and 6 of the guide's Appendix 2, and the place of each column.
 #![tactic(auto)]
 
-// The default tables: Schedules 4 and 6 of the guide's Appendix 2, and the place of each column.
 ghost use Rattle.std.specs.Prelude.{◌≡◌};
 ghost use Rattle.schedules.specs.{schedule4, schedule6, place_four, place_six};
 

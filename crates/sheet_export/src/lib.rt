@@ -1,6 +1,6 @@
+// The export of a book, written into a lent buffer.
 #![tactic(auto)]
 
-// The export of a book, written into a lent buffer.
 ghost use Rattle.std.specs.Prelude.{◌≡◌, ◌≤◌, length};
 ghost use Rattle.refusals.specs.{written, buffer_after};
 ghost use Rattle.text.specs.{Wrote};

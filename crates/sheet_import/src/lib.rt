@@ -1,6 +1,6 @@
+// Sub-areas of a sheet added to the holding of a statement, all of them or none.
 #![tactic(auto)]
 
-// Sub-areas of a sheet added to the holding of a statement, all of them or none.
 ghost use Rattle.std.specs.Prelude.{◌≡◌};
 ghost use Rattle.statement_field.specs.{Put};
 ghost use Rattle.call_output.specs.{Gives};

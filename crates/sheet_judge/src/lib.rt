@@ -1,6 +1,6 @@
+// What refuses a sheet before any of its rows is taken.
 #![tactic(auto)]
 
-// What refuses a sheet before any of its rows is taken.
 ghost use Rattle.std.specs.Prelude.{◌≡◌, length, drop};
 ghost use Rattle.laws.specs.{every};
 ghost use Rattle.text.specs.{join};

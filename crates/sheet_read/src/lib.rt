@@ -1,6 +1,6 @@
+// A sheet of comma-separated values under RFC 4180, read by its bytes: whether it is sound, and a row of it, its fields joined by commas.
 #![tactic(auto)]
 
-// A sheet of comma-separated values under RFC 4180, read by its bytes: whether it is sound, and a row of it, its fields joined by commas.
 ghost use Rattle.std.specs.Prelude.{◌≡◌};
 ghost use Rattle.text.specs.{Wrote};
 ghost use Rattle.sheet_read.specs.{after_field, plain_at, begins_at, turned, may_end, sound, quoted_mark, mark_of, mark_text, mark_fields, ends_row, Joined};

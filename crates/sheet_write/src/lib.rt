@@ -1,6 +1,6 @@
+// Rows of a sheet put into a lent buffer, each field quoted and each row ended by CR LF; the answer is the place after what was put.
 #![tactic(auto)]
 
-// Rows of a sheet put into a lent buffer, each field quoted and each row ended by CR LF; the answer is the place after what was put.
 ghost use Rattle.std.specs.Prelude.{◌∷◌, [], ◌++◌};
 ghost use Rattle.text.specs.{comma, Wrote};
 ghost use Rattle.text_field.specs.{part};

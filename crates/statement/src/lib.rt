@@ -1,6 +1,6 @@
+// A carried statement: a holding read from lent bytes, or refused under 11.
 #![tactic(auto)]
 
-// A carried statement: a holding read from lent bytes, or refused under 11.
 ghost use Rattle.std.specs.Prelude.{◌≡◌};
 ghost use Rattle.statement.specs.{read_of};
 

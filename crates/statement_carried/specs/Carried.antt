@@ -1,6 +1,7 @@
 -- What a holding keeps so that a statement carries it: "A reader accepts it exactly when .." of document 01.
 use Rattle.std.specs.Prelude.{◌+◌, ◌*◌, ◌||◌, ◌∷◌}
-use Rattle.laws.specs.{ℕ, max, Bool, not, Bool·beq, [], eqb, leb, every, distinct, all_of}
+use Rattle.std.specs.Bool.{beq}
+use Rattle.laws.specs.{ℕ, max, Bool, not, [], eqb, leb, every, distinct, all_of}
 use Rattle.ranges.specs.{last_year, is_bare, is_area, is_sub, is_year, is_land, is_planted}
 use Rattle.holding.specs.{Residue, Sub, Area, Holding, most_areas, areas_of, subs_of, residues_of}
 use Rattle.statement_carried.specs.Most.{Limits, limits}
@@ -18,7 +19,7 @@ years_carried area =
     ∷ (eqb area.latest 0 || is_year area.latest)
     ∷ leb area.open_year (last_year + 1)
     ∷ leb area.opening area.open_year
-    ∷ Bool·beq (eqb area.open_year area.opening) (eqb area.returns 0)
+    ∷ beq (eqb area.open_year area.opening) (eqb area.returns 0)
     ∷ leb (area.returns + area.opening) area.open_year
     ∷ [])
 

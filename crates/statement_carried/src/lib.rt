@@ -1,6 +1,6 @@
+// What a holding keeps so that a statement carries it. A step tests the fields of the one area that it touches.
 #![tactic(auto)]
 
-// What a holding keeps so that a statement carries it. A step tests the fields of the one area that it touches.
 ghost use Rattle.std.specs.Prelude.{◌≡◌, ◌≤◌};
 ghost use Rattle.holding.specs.{most_subs};
 ghost use Rattle.statement_carried.specs.{years_carried, amounts_carried, fields_carried};

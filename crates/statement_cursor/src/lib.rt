@@ -1,7 +1,7 @@
-#![tactic(auto)]
-
 // Reads fields at a place of lent bytes, each with the place after it. The place 0, where no field but a statement's first letter can stand,
 // says that something was not read: what is read there is not read either, so that a caller need only look at the last place.
+#![tactic(auto)]
+
 ghost use Rattle.std.specs.Prelude.{◌≤◌, ◌≡◌};
 ghost use Rattle.statement_cursor.specs.{Leads, Stops, number_at, type_at, start_at, line_at};
 

@@ -1,6 +1,6 @@
+// Whether no number stands twice, and whether no two areas bear the same number.
 #![tactic(auto)]
 
-// Whether no number stands twice, and whether no two areas bear the same number.
 ghost use Rattle.std.specs.Prelude.{◌≡◌, ℕ, min, eqb, drop};
 ghost use Rattle.laws.specs.{some, distinct};
 ghost use Rattle.holding.specs.{areas_of, Area};

@@ -1,6 +1,6 @@
+// The fields of a statement, written into a lent buffer at any place.
 #![tactic(auto)]
 
-// The fields of a statement, written into a lent buffer at any place.
 ghost use Rattle.statement_format.specs.{start_text, number_text, start_width, long_width, short_width};
 ghost use Rattle.statement_field.specs.{Put};
 

@@ -1,3 +1,2 @@
-#![tactic(auto)]
-
 // The bytes of a carried statement. No code.
+#![tactic(auto)]

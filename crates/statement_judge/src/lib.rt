@@ -1,6 +1,6 @@
+// Whether a statement carries a holding.
 #![tactic(auto)]
 
-// Whether a statement carries a holding.
 ghost use Rattle.std.specs.Prelude.{◌≡◌, max};
 ghost use Rattle.laws.specs.{every};
 ghost use Rattle.holding.specs.{areas_of, subs_of, residues_in, Area};

@@ -1,6 +1,6 @@
+// Reads a statement's lines as a holding, with the place after them. What the holding must keep is judged after it is read.
 #![tactic(auto)]
 
-// Reads a statement's lines as a holding, with the place after them. What the holding must keep is judged after it is read.
 ghost use Rattle.std.specs.Prelude.{◌≤◌, ◌≡◌};
 ghost use Rattle.holding.specs.{most_areas, most_subs};
 ghost use Rattle.statement_parse.specs.{residue_at, sub_line_at, years_at, amounts_at, area_line_at, areas_at, holding_at};

@@ -1,7 +1,7 @@
-#![tactic(auto)]
-
 // One pass over a statement's bytes, area by area: whether it carries a holding, the area of a number, where that area's lines stand, and the units of
 // all areas. No holding is made.
+#![tactic(auto)]
+
 ghost use Rattle.std.specs.Prelude.{◌≡◌, ◌≤◌};
 ghost use Rattle.holding.specs.{most_areas};
 ghost use Rattle.statement_pass.specs.{PassesAreas, passed_over};

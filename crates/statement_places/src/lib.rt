@@ -1,3 +1,2 @@
-#![tactic(auto)]
-
 // Where the parts of a statement stand in its bytes. No code.
+#![tactic(auto)]

@@ -1,6 +1,6 @@
+// The line of a sub-area, written into a lent buffer at any place.
 #![tactic(auto)]
 
-// The line of a sub-area, written into a lent buffer at any place.
 ghost use Rattle.statement_format.specs.{type_text, residue_text, sub_text, type_width, residue_width, sub_width};
 ghost use Rattle.statement_field.specs.{Put};
 ghost use Rattle.text.specs.{line_end};

@@ -1,6 +1,6 @@
+// Writes a holding as a statement. One set of functions measures and writes, since a byte past a buffer's end is not stored.
 #![tactic(auto)]
 
-// Writes a holding as a statement. One set of functions measures and writes, since a byte past a buffer's end is not stored.
 ghost use Rattle.std.specs.Prelude.{◌≡◌, ◌≤◌, length};
 ghost use Rattle.text.specs.{Wrote};
 ghost use Rattle.statement_format.specs.{flag, years_text, amounts_text, area_text, statement_of, years_width, amounts_width, area_width, statement_width};

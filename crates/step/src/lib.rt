@@ -1,6 +1,6 @@
+// A step of a holding: an act on the area that it names.
 #![tactic(auto)]
 
-// A step of a holding: an act on the area that it names.
 ghost use Rattle.std.specs.Prelude.{◌≡◌};
 ghost use Rattle.step.specs.{looks_up, acted, stepped};
 

@@ -1,6 +1,6 @@
+// S adds a sub-area. Both tables are lent: the participant's, and the cells of Schedule 6.
 #![tactic(auto)]
 
-// S adds a sub-area. Both tables are lent: the participant's, and the cells of Schedule 6.
 ghost use Rattle.std.specs.Prelude.{◌≡◌, ◌<◌, ◌*◌, ◌≤◌};
 ghost use Rattle.refusals.specs.{smallest};
 ghost use Rattle.holding.specs.{most_subs};

@@ -1,6 +1,6 @@
+// C clears a sub-area: its trees become its residue.
 #![tactic(auto)]
 
-// C clears a sub-area: its trees become its residue.
 ghost use Rattle.std.specs.Prelude.{◌≡◌};
 ghost use Rattle.refusals.specs.{smallest};
 ghost use Rattle.holding.specs.{find_sub};

@@ -1,7 +1,7 @@
-#![tactic(auto)]
-
 // R files a return: the change of the stock since the last, and the units received or due for it.
 // Both tables are lent: the participant's, and the cells of Schedule 6.
+#![tactic(auto)]
+
 ghost use Rattle.std.specs.Prelude.{◌≡◌, ◌≤◌, true};
 ghost use Rattle.refusals.specs.{smallest};
 ghost use Rattle.statement_carried.specs.{fields_carried};

@@ -1,6 +1,6 @@
+// A opens an accounting area.
 #![tactic(auto)]
 
-// A opens an accounting area.
 ghost use Rattle.std.specs.Prelude.{◌≡◌};
 ghost use Rattle.refusals.specs.{smallest};
 ghost use Rattle.step_open.specs.{open_cases, opened};

@@ -1,6 +1,6 @@
+// What a step answers: the verdict, the report, and the one area that comes to stand at a place, of how many.
 #![tactic(auto)]
 
-// What a step answers: the verdict, the report, and the one area that comes to stand at a place, of how many.
 ghost use Rattle.std.specs.Prelude.{◌≡◌};
 ghost use Rattle.refusals.specs.{weighed, weigh_all};
 ghost use Rattle.step_outcome.specs.{turned_back, placed, uncarried, area_cases};

@@ -1,6 +1,6 @@
+// P plants a sub-area that has no trees.
 #![tactic(auto)]
 
-// P plants a sub-area that has no trees.
 ghost use Rattle.std.specs.Prelude.{◌≡◌};
 ghost use Rattle.refusals.specs.{smallest};
 ghost use Rattle.holding.specs.{find_sub};

@@ -1,6 +1,6 @@
+// W withdraws an area: its whole balance is due.
 #![tactic(auto)]
 
-// W withdraws an area: its whole balance is due.
 ghost use Rattle.std.specs.Prelude.{◌≡◌};
 ghost use Rattle.refusals.specs.{smallest};
 ghost use Rattle.step_withdraw.specs.{withdraw_cases, withdrawn};

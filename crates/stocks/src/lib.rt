@@ -1,6 +1,6 @@
+// The carbon stock of a sub-area and of an area on 1 January of a year.
 #![tactic(auto)]
 
-// The carbon stock of a sub-area and of an area on 1 January of a year.
 ghost use Rattle.std.specs.Prelude.{◌≡◌, ◌*◌, ◌≤◌};
 ghost use Rattle.stocks.specs.{trees_on, residue_on, sub_stock, area_stock};
 

@@ -1,6 +1,6 @@
+// The participant's table, judged.
 #![tactic(auto)]
 
-// The participant's table, judged.
 ghost use Rattle.std.specs.Prelude.{◌≡◌};
 ghost use Rattle.laws.specs.{each_at_most};
 ghost use Rattle.table.specs.{has_columns, judged};

@@ -1,6 +1,6 @@
+// A table's bytes, read as its numbers.
 #![tactic(auto)]
 
-// A table's bytes, read as its numbers.
 ghost use Rattle.std.specs.Prelude.{◌≡◌, ◌/◌, ◌%◌, ◌≤◌, length};
 ghost use Rattle.std.proofs.lemmas.List.Edits.{sets};
 ghost use Rattle.refusals.specs.{written, buffer_after};

@@ -1,6 +1,6 @@
+// A column that a T entry adds to the participant's table.
 #![tactic(auto)]
 
-// A column that a T entry adds to the participant's table.
 ghost use Rattle.std.specs.Prelude.{◌≡◌, ◌++◌, ◌+◌, ◌<◌, ◌≤◌, length, take, drop};
 ghost use Rattle.std.proofs.lemmas.List.Edits.{sets};
 ghost use Rattle.table_parts.specs.{column_count};

@@ -1,6 +1,6 @@
+// The participant's table longer by a T line's column, in place.
 #![tactic(auto)]
 
-// The participant's table longer by a T line's column, in place.
 ghost use Rattle.std.specs.Prelude.{◌≡◌, take, leb};
 ghost use Rattle.refusals.specs.{weighed, written, buffer_after};
 ghost use Rattle.table.specs.{longest_table};

@@ -1,6 +1,6 @@
+// A participant's table as it is lent, its cells together with the length of each column, and a column's cells out of it.
 #![tactic(auto)]
 
-// A participant's table as it is lent, its cells together with the length of each column, and a column's cells out of it.
 ghost use Rattle.std.specs.Prelude.{◌≡◌};
 ghost use Rattle.table_parts.specs.{cells_of};
 ghost use Rattle.table_lent.specs.{lent_column, lent_lengths, own_column};

@@ -1,6 +1,6 @@
+// The parts of a participant's table: the order of its columns, any part of a list of numbers, and the lengths that the table begins with.
 #![tactic(auto)]
 
-// The parts of a participant's table: the order of its columns, any part of a list of numbers, and the lengths that the table begins with.
 ghost use Rattle.std.specs.Prelude.{◌≡◌, take, drop};
 ghost use Rattle.laws.specs.{sum_of};
 ghost use Rattle.text.specs.{holds};

@@ -1,7 +1,7 @@
-#![tactic(auto)]
-
 // A byte looked for, and bytes written into a lent buffer.
 // A byte past the buffer's end is not stored and the place moves on all the same, so that writing measures.
+#![tactic(auto)]
+
 ghost use Rattle.std.specs.Prelude.{◌≡◌, ◌∷◌, [], ◌+◌, ◌/◌, ◌%◌, ◌≤◌, ◌<◌, min, length, drop};
 ghost use Rattle.std.proofs.lemmas.List.Edits.{sets};
 ghost use Rattle.text.specs.{width_to, holds, digits, greatest, Wrote};

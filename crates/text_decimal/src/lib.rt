@@ -1,6 +1,6 @@
+// Numbers with a point, read from bytes: hectares and table cells.
 #![tactic(auto)]
 
-// Numbers with a point, read from bytes: hectares and table cells.
 ghost use Rattle.std.specs.Prelude.{◌≡◌};
 ghost use Rattle.text_number.specs.{more};
 ghost use Rattle.text_decimal.specs.{zeros, decimal_in, hectares_in, cell_in};

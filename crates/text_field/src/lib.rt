@@ -1,6 +1,6 @@
+// Where the fields of a line stand, found in one scan, and a field as a part of its line.
 #![tactic(auto)]
 
-// Where the fields of a line stand, found in one scan, and a field as a part of its line.
 ghost use Rattle.std.specs.Prelude.{◌≡◌, set};
 ghost use Rattle.text.specs.{split};
 ghost use Rattle.text_field.specs.{places_of, part};

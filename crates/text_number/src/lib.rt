@@ -1,6 +1,6 @@
+// Whole numbers of any length, read from bytes.
 #![tactic(auto)]
 
-// Whole numbers of any length, read from bytes.
 ghost use Rattle.std.specs.Prelude.{◌≡◌};
 ghost use Rattle.text_number.specs.{append, more, number_in};
 

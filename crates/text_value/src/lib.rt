@@ -1,6 +1,6 @@
+// What a number that was read says of ranges: whether it is in one, and its value in so many bits.
 #![tactic(auto)]
 
-// What a number that was read says of ranges: whether it is in one, and its value in so many bits.
 ghost use Rattle.std.specs.Prelude.{◌≡◌};
 ghost use Rattle.text_value.specs.{malformed, outside, value_of, fitted};
 

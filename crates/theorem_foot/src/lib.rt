@@ -1,3 +1,2 @@
-#![tactic(auto)]
-
 // The foot of a listing adds up with the sheet above it. No code.
+#![tactic(auto)]

@@ -1,5 +1,6 @@
 -- Tests joined: one holds where another does, or just when it does.
-use Rattle.laws.proofs.{ℕ, Bool, true, false, not, ◌||◌, Bool·beq, ◌≡◌, refl, sym, eqb, eqb-true, eqb-false, eq-eqb, ne_eqb}
+use Rattle.std.specs.Bool.{beq}
+use Rattle.laws.proofs.{ℕ, Bool, true, false, not, ◌||◌, ◌≡◌, refl, sym, eqb, eqb-true, eqb-false, eq-eqb, ne_eqb}
 use Rattle.laws.proofs.Elements.{clash}
 
 -- "equal if withdrawn": a number equals another where a test holds
@@ -20,17 +21,17 @@ module _ (t : Bool) (a b : ℕ) where
 
 -- "equals it just when": two equations hold together
 module _ (a b c d : ℕ) where
-  pub just_when_read : Bool·beq (eqb a b) (eqb c d) ≡ true → c ≡ d → a ≡ b
+  pub just_when_read : beq (eqb a b) (eqb c d) ≡ true → c ≡ d → a ≡ b
   just_when_read h e = go (eqb a b) refl (eqb c d) (eq-eqb c d e) h
     where
-      go : (s : Bool) → eqb a b ≡ s → (t : Bool) → t ≡ true → Bool·beq s t ≡ true → a ≡ b
+      go : (s : Bool) → eqb a b ≡ s → (t : Bool) → t ≡ true → beq s t ≡ true → a ≡ b
       go true p t q h = eqb-true a b p
       go false p true q h = clash (sym h)
       go false p false q h = clash (sym q)
 
-  pub just_when : (a ≡ b → c ≡ d) → (c ≡ d → a ≡ b) → Bool·beq (eqb a b) (eqb c d) ≡ true
+  pub just_when : (a ≡ b → c ≡ d) → (c ≡ d → a ≡ b) → beq (eqb a b) (eqb c d) ≡ true
   just_when f g = go (eqb a b) refl
     where
-      go : (s : Bool) → eqb a b ≡ s → Bool·beq s (eqb c d) ≡ true
+      go : (s : Bool) → eqb a b ≡ s → beq s (eqb c d) ≡ true
       go true p = rw (eq-eqb c d (f (eqb-true a b p)))
       go false p = rw (ne_eqb c d (λ e. eqb-false a b p (g e)))

@@ -1,3 +1,2 @@
-#![tactic(auto)]
-
 // What entries reach, a statement carries. No code.
+#![tactic(auto)]

@@ -1,3 +1,2 @@
-#![tactic(auto)]
-
 // Limits that are widened, and what stays. No code.
+#![tactic(auto)]

@@ -1,3 +1,2 @@
-#![tactic(auto)]
-
 // The parts of a book's listing, joined. No code.
+#![tactic(auto)]

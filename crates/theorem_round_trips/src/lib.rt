@@ -1,3 +1,2 @@
-#![tactic(auto)]
-
 // What is written reads back, and what is read writes back. No code.
+#![tactic(auto)]

@@ -1,3 +1,2 @@
-#![tactic(auto)]
-
 // Rows written and read again. No code.
+#![tactic(auto)]

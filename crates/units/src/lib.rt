@@ -1,7 +1,7 @@
-#![tactic(auto)]
-
 // The three units of the accounts, and the rounding to tenths of a hectare and to tonnes.
 // Products alone turn tenths of a hectare and tenths of a tonne per hectare into kilograms, and kilograms are added to kilograms alone.
+#![tactic(auto)]
+
 ghost use Rattle.std.specs.Prelude.{◌≡◌, ◌*◌, ◌≤◌};
 ghost use Rattle.units.specs.{tenths_of, trees_of, residue_of, no_kilograms, plus, tonnes, change_between};
 
