@@ -82,6 +82,7 @@ fn cell_at(cells: &[u16], first: usize, age: u16) -> u16
 }
 
 // The rate of post-1989 forest land, none on bare land: the participant's table and the cells of Schedule 6 are lent.
+#[tactic(auto, unfolding(crate::specs::Rates::rate_six, crate::specs::Rates::cell_at, crate::specs::Rates::consulted))]
 pub fn rate_six<'a>(
     own: &'a [u16],
     default: &'a [u16],
@@ -102,6 +103,7 @@ pub fn rate_six<'a>(
 }
 
 // The rate of pre-1990 forest land: the cells of Schedule 4 are lent.
+#[tactic(auto, unfolding(crate::specs::Rates::rate_four, crate::specs::Rates::cell_at))]
 pub fn rate_four(cells: &[u16], forest: Forest, age: u16) -> Rate
     ensures { result ≡ rate_four cells.now forest age }
 {
