@@ -72,6 +72,7 @@ fn begins_at(byte: u8) -> Reading
 }
 
 // Where a byte leads.
+#[tactic(auto, unfolding(crate::specs::Turns::turned, crate::specs::Turns::begins_at, crate::specs::Turns::plain_at, crate::specs::Turns::after_field))]
 pub fn turn(reading: Reading, byte: u8) -> Reading
     ensures { result ≡ turned reading byte }
 {
