@@ -1,7 +1,8 @@
 -- The numbers of bytes, a number at a time as the loop goes, and what a clear verdict says of them.
-use Rattle.laws.proofs.{ℕ, suc, ◌+◌, ◌*◌, ◌/◌, ◌%◌, ◌<◌, ◌≤◌, ◌≡◌, refl, sym, ap, ◌∙◌, List, [], ◌∷◌, add-one, arith, length, get_or, set, drop, drop_of_length-le, drop-cons, sets, eqb-true, ltb-false, not-false}
-use Rattle.refusals.specs.{weigh_all, smallest, Refusal, Verdict}
+use Rattle.laws.proofs.{ℕ, suc, ◌+◌, ◌*◌, ◌/◌, ◌%◌, ◌<◌, ◌≤◌, ◌≡◌, refl, sym, ap, ◌∙◌, List, [], ◌∷◌, add-one, arith, length, get_or, set, drop, drop_of_length-le, drop-cons, sets, eqb-true, ltb-false, not-false, not, eqb, ltb}
+use Rattle.refusals.specs.{weighed, weigh_all, smallest, Refusal, Verdict}
 use Rattle.refusals.proofs.Laws.{clear_before, clear_last}
+use Rattle.table.specs.{longest_table}
 use Rattle.table_bytes.specs.{numbers_of, decodable}
 
 pub number-count : (bytes : List ℕ) → length (numbers_of bytes) ≡ length bytes / 2
@@ -36,3 +37,10 @@ clear_decodable bytes room e =
       eqb-true _ _ (not-false _ (clear_last Verdict.Accepted _ Refusal.TableColumn (clear_before _ _ Refusal.TableColumn before))),
       ltb-false _ _ (clear_last _ _ Refusal.OutputShort e),
     )
+
+-- the verdict, case by case, is the rule's
+pub verdict_of : (bytes : List ℕ) (room : ℕ) (a b v : Verdict) → a ≡ weighed Verdict.Accepted (not (eqb (length bytes % 2) 0)) Refusal.TableColumn
+    → b ≡ weighed a (ltb longest_table (length bytes / 2)) Refusal.TableColumn → v ≡ weighed b (ltb room (length bytes / 2)) Refusal.OutputShort
+    → v ≡ decodable bytes room
+unfolding decodable smallest weigh_all
+verdict_of bytes room a b v e f g = simp (g, f, e)
