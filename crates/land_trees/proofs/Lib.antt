@@ -3,3 +3,4 @@ pub mod Examples
 pub mod Gathering
 pub mod Judged
 pub mod Refused
+pub mod Under
