@@ -63,6 +63,7 @@ fn put_all(numbers: &[u16], out: &mut [u16], at: usize)
 }
 
 // Puts ten lengths of 0 to the front where there is no table yet: how many numbers the table has then.
+#[tactic(auto, unfolding(crate::specs::Extension::begun))]
 fn begin(numbers: &mut [u16], count: usize) -> usize
     requires { column_count ≤ length numbers.old }
     ensures value { result ≡ length (begun (take count numbers.old)) }
