@@ -1,0 +1,22 @@
+-- `step_file::file` meets its contract, by the verdict on the area that was looked up; a clear one bounds the year and the area's fields.
+use Rattle.laws.proofs.{sym, ◌∙◌}
+use Rattle.refusals.proofs.Laws.{ruled_out}
+use Rattle.ranges.proofs.Laws.{year_at_most}
+use Rattle.step_outcome.specs.{area_cases}
+use Rattle.step_outcome.proofs.Laws.{refused, taken, fields-kept}
+use Rattle.step_file.specs.{file_cases, filed}
+use Rattle.step_file.proofs.file.Goals as goal
+
+pub settle-settled-requires : goal.settle-settled-requires
+unfolding file_cases area_cases
+settle-settled-requires c =
+    let out = ruled_out _ (sym c.verdict-v.ensures ∙ c.in-Accepted.is) in
+    (fields-kept c.args.looked.found _ (out 2) (out 3), year_at_most _ (out 1))
+
+pub returns-in-Refused : goal.returns-in-Refused
+unfolding filed
+returns-in-Refused c = refused _ _ c.verdict-v.ensures _ _ _ c.turned.ensures c.in-Refused.is
+
+pub returns-in-Accepted : goal.returns-in-Accepted
+unfolding filed
+returns-in-Accepted c = taken _ _ c.verdict-v.ensures _ _ c.in-Accepted.is (simp c.settle-settled.ensures)
