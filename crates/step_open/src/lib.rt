@@ -10,7 +10,6 @@ use holding_look::Looked;
 use refusals::{Refusal, Verdict};
 use step_outcome::{Outcome, Report};
 
-#[tactic(auto, unfolding(refusals::specs::Refusals::smallest, crate::specs::Opening::open_cases, refusals::specs::Refusals::weigh_all, refusals::specs::Refusals::weighed))]
 fn verdict(looked: Looked, opening: u16) -> Verdict
     ensures { result ≡ smallest (open_cases looked opening) }
 {
