@@ -10,6 +10,7 @@ use schedules::{Kind, Place};
 use units::Rate;
 
 // The tenths of a residue that are left, by the years since the clearing.
+#[tactic(auto, using(crate::proofs::Decay::ten_less))]
 pub fn share(years: u16) -> u8
     ensures { result ≡ share_after years }
 {
