@@ -18,4 +18,3 @@ loop-i-preserved c =
 
 pub returns : goal.returns
 returns c = let a = c.args in place_out _ _ a.numbers.now a.count _ c.loop-i-test.false ∙ c.loop-i.invariant
-

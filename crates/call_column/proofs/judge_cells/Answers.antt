@@ -19,4 +19,3 @@ returns c =
     c.least.ensures
     ∙ ap (smaller p.pass-passed.result.verdict) (weighs.weigh-grown_verdict.ensures ∙ ap (λ (v : Verdict). weighed v (leb 1 p.pass-passed.result.looked.count) Refusal.TableAfterArea) table)
     ∙ ap (λ (x : Passed). smaller x.verdict (weighed (extensible (begun (take a.count a.numbers.now)) a.column a.cells.now longest_table) (leb 1 x.looked.count) Refusal.TableAfterArea)) p.pass-passed.ensures
-
