@@ -73,7 +73,7 @@ module _ (n : ℕ) (holding : Holding) (rows : List Row) (reported : Reported) (
     pub changed_agreed : area.number ≡ before.number → ((row : Row) → (f row).number ≡ row.number)
         → (m ≡ n → (row : Row) → Alike before reported row → Alike area after (f row)) → ((m ≡ n → ⊥) → after ≡ reported)
         → Agreed n (record { count = holding.count; areas = set holding.areas i area }) (change row_number m f rows) after
-    changed_agreed number row_number alike other = record {
+    changed_agreed number row_numbered alike other = record {
       places = length-set holding.areas i area ∙ agreed.places;
       matched = matched_by _ _ (under row_number n (change row_number m f rows)) _ after after (ap (under area_number n) stored) refl refl (go (eqb m n) refl);
     }
@@ -82,7 +82,7 @@ module _ (n : ℕ) (holding : Holding) (rows : List Row) (reported : Reported) (
         bears a e = number ∙ under_bears area_number m (areas_of holding) before stands
 
         keeps : (row : Row) → row.number ≡ m → (f row).number ≡ m
-        keeps row e = row_number row ∙ e
+        keeps row e = row_numbered row ∙ e
 
         hit : (e : m ≡ n) (q : Option Row) → under row_number n rows ≡ q → Matched (some before) q reported
             → Matched (under area_number n (change area_number m (λ (a : Area). area) (areas_of holding))) (under row_number n (change row_number m f rows)) after

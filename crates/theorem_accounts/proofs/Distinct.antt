@@ -44,6 +44,7 @@ module _ {A : Type 0} (number_of : A → ℕ) where
   -- where numbers are distinct, what is listed is what stands under its number
   pub listed-under : (a : A) (l : List A) → distinct number_of l ≡ true → Memᴰ a l → under number_of (number_of a) l ≡ some a
   unfolding distinct under
+  listed-under a [] d m = elim m [ ]
   listed-under a (b ∷ l) d (Memᴰ.head e) = rw e (rw (eq-eqb (number_of b) (number_of b) refl))
   listed-under a (b ∷ l) d (Memᴰ.tail m) =
       rw (unequal (number_of a) (number_of b) (none_passes (bears number_of (number_of b)) a l (first_apart number_of b l d) m)) (listed-under a l (rest-distinct number_of b l d) m)

@@ -62,13 +62,13 @@ module _ (own : List ℕ) (n : ℕ) (holding : Holding) (rows : List Row) (repor
         → ((m ≡ n → ⊥) → reported_with n reported report ≡ reported)
         → Keeps (answered (smallest cs) (accepted report found holding.count next)) (change row_number m f rows)
     unfolding answered placed found area area_at
-    area_keeps cs next f report stands number row_number alike other = go (smallest cs) refl
+    area_keeps cs next f report stands number row_numbered alike other = go (smallest cs) refl
       where
         at : (p : Found) → find_area holding m ≡ p → RuledOut cs → known p ≡ true → next.number ≡ (area_at holding p).number
             → (m ≡ n → (row : Row) → Alike (area_at holding p) reported row → Alike next (reported_with n reported report) (f row))
             → Keeps (accepted report p holding.count next) (change row_number m f rows)
         at Found.Nowhere e h k q alike = let z : ◌≡◌ {A = ℕ} 0 1 = cc in absurd (omega arith)
-        at (Found.At i) e h k q alike = changed_agreed n holding rows reported agreed m i e next f (reported_with n reported report) q row_number alike other
+        at (Found.At i) e h k q alike = changed_agreed n holding rows reported agreed m i e next f (reported_with n reported report) q row_numbered alike other
 
         go : (v : Verdict) → smallest cs ≡ v → Keeps (answered v (accepted report (find_area holding m) holding.count next)) (change row_number m f rows)
         go (Verdict.Refused refusal) v = turned_keeps refusal (change row_number m f rows)
