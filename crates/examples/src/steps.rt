@@ -61,8 +61,7 @@ fn say_filed(rt: &impl Print, filed: Filed) -> io::Result<()> {
 fn say_return(rt: &impl Print, outcome: Outcome) -> io::Result<()> {
     let report = outcome.report;
     let Report::Return(filed) = report else {
-        say(rt, b"No return\n")?;
-        return;
+        return say(rt, b"No return\n");
     };
     say_filed(rt, filed)?;
     Ok(())
