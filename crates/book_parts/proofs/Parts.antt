@@ -56,14 +56,14 @@ module _ (book : List ℕ) (next : ℕ) (reached : Reached) where
 
     pub part-more : part.next < length book → Whole (part_of book next reached) out after part.count
     part-more inside =
-        let ended = part_is [] (closed_not _ book part.next _ ran.left inside) in
+        let ended = part_is [] (closed_not (run_from run (take part_lines lines)) book part.next _ ran.left inside) in
         whole (wrote_as (sym (append-nil listed) ∙ ended) ran.wrote)
         (omega (arith, ap length (sym (append-nil listed) ∙ ended), ran.wrote.place, ran.short))
 
     pub part_last : length book ≤ part.next → {last : List ℕ} {count : ℕ} → Put closing_width after part.count (closing (run_of part.reached)) last count
         → Whole (part_of book next reached) out last count
     part_last over {last} {count} end =
-        let ended = part_is (closing (run_of part.reached)) (closed _ book part.next _ ran.left over ∙ ap (λ (r : Run). closing r) (sym ran.run)) in
+        let ended = part_is (closing (run_of part.reached)) (closed (run_from run (take part_lines lines)) book part.next _ ran.left over ∙ ap (λ (r : Run). closing r) (sym ran.run)) in
         whole (wrote_as ended (wrote_then ran.wrote end.wrote))
         (omega (arith, ap length ended, length-append listed (closing (run_of part.reached)), ran.wrote.place, ran.short, end.few))
 
