@@ -1,5 +1,5 @@
 -- A turn of the loop is a turn of the fold: the code's table, holding and counts after a line are those of the run that follows.
-use Rattle.laws.proofs.{ℕ, ◌+◌, ◌-◌, ◌≡◌, refl, ap, ◌∙◌, List, arith, take}
+use Rattle.laws.proofs.{ℕ, ◌+◌, ◌-◌, ◌≡◌, ap, ◌∙◌, List, arith, take}
 use Rattle.refusals.specs.{Verdict}
 use Rattle.schedules.specs.{schedule6}
 use Rattle.line_entry.specs.{Parsed}

@@ -1,12 +1,12 @@
 -- The rows of a line, and of those behind it, are those of all; they do not depend on how many lines were accepted and refused before.
 use Rattle.laws.proofs.{ℕ, ◌+◌, ◌-◌, ◌<◌, ◌≡◌, refl, sym, ap, ◌∙◌, List, [], ◌∷◌, ◌++◌, length, take, drop, lt-ltb}
 use Rattle.text.specs.{line_end, width_to}
-use Rattle.holding.specs.{Holding}
+use Rattle.holding.specs.{Area, Holding}
 use Rattle.statement_format.specs.{texts}
 use Rattle.statement_format.proofs.Texts.{texts-append}
 use Rattle.sheet_read.specs.{Row}
 use Rattle.sheet_write.specs.{row_text, sheet_text}
-use Rattle.book_listing.specs.{Run, start, next, lines_of, lines_run, longest_book}
+use Rattle.book_listing.specs.{Run, start, next, lines_run, longest_book}
 use Rattle.book_listing.proofs.Lines.{lines_at}
 use Rattle.book_export.specs.{exported_row, exported_from}
 use Rattle.book_run.specs.{lines_from}
@@ -24,6 +24,10 @@ rows_same own holding a r b s (line ∷ lines) =
 -- what a run has come to, its lines not counted
 abbrev pub uncounted : List ℕ → Holding → Run
 uncounted own holding = record { own = own; holding = holding; accepted = 0; refused = 0 }
+
+-- the holding of so many areas
+abbrev pub holding_of : ℕ → List Area → Holding
+holding_of standing areas = record { count = standing; areas = areas }
 
 pub rows_alike : (run : Run) (lines : List (List ℕ)) → sheet_text (exported_from (uncounted run.own run.holding) lines) ≡ sheet_text (exported_from run lines)
 rows_alike run lines = ap sheet_text (rows_same run.own run.holding 0 0 run.accepted run.refused lines)

@@ -2,10 +2,15 @@
 use Rattle.laws.proofs.{ℕ, ◌≤◌, ◌<◌, ◌≡◌, sym, ap, subst, ◌∙◌, Bool, true, false, ◌&&◌, List, [], ◌∷◌, ◌++◌, ◌⊎◌, inl, inr, ⊎_elim, arith, ltb, ltb-true, ltb-false, lt-ltb, length, take, drop, take_all, drop_of_length-le}
 use Rattle.laws.proofs.Lists.{and_left, and_right}
 use Rattle.laws.proofs.Order.{below_or_not}
+use Rattle.holding.specs.{Holding}
 use Rattle.book_listing.specs.{lines_of, Run, next, printed, printed_from, longest_book}
 use Rattle.book_listing.proofs.Lines.{lines_none, lines_few}
 use Rattle.book_reached.specs.{Reached, may_run_from}
 use Rattle.book_run.specs.{Part, lines_from, RunOf, RunsIf}
+
+-- what is carried from line to line
+abbrev pub carried : List ℕ → ℕ → Holding → ℕ → ℕ → Run
+carried table count holding accepted refused = record { own = take count table; holding = holding; accepted = accepted; refused = refused }
 
 -- ---- the loop's two tests
 
