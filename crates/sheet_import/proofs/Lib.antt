@@ -1,5 +1,6 @@
 pub mod Lines
 pub mod Rows
 pub mod Sheets
+pub mod Standing
 pub mod Reading
 pub mod Onto
