@@ -1,0 +1,30 @@
+-- `call_import::import_sheet` meets its contract: bytes that are no numbers decide, and else the import under the numbers that were read.
+use Rattle.laws.proofs.{arith}
+use Rattle.call_output.proofs.Given.{gives_refused}
+use Rattle.call_answer.proofs.TableRead.{no_table, table-refused, table-few, table-lent}
+use Rattle.call_import.proofs.Given.{table_decides, import_under}
+use Rattle.call_import.proofs.import_sheet.Goals as goal
+
+pub returns-then-table-eq0 : goal.returns-then-table-eq0
+returns-then-table-eq0 c =
+    let a = c.args in
+    import_under a.statement.now a.table.now a.sheet.now _ a.out.now _ _ (no_table a.table.now c.if-table-eq0.true) c.import_under.ensures
+
+pub slice_bounds-import_under-end-in-Count : goal.slice_bounds-import_under-end-in-Count
+slice_bounds-import_under-end-in-Count c =
+    let decoded = c.decode-own.ensures in
+    omega (arith, table-few c.args.table.now _ _ decoded.value decoded.out_after _ c.in-Count.is)
+
+pub returns-in-Refused : goal.returns-in-Refused
+returns-in-Refused c =
+    let a = c.args in
+    let decoded = c.decode-own.ensures in
+    gives_refused _ _ _ _
+    (table_decides a.statement.now a.table.now a.sheet.now _ (table-refused a.table.now _ _ decoded.value decoded.out_after _ c.in-Refused.is))
+
+pub returns-in-Count : goal.returns-in-Count
+returns-in-Count c =
+    let a = c.args in
+    let decoded = c.decode-own.ensures in
+    import_under a.statement.now a.table.now a.sheet.now _ a.out.now _ _
+    (table-lent a.table.now _ _ decoded.value decoded.out_after _ c.in-Count.is) c.import_under-in-Count.ensures
