@@ -1,6 +1,6 @@
 -- "Export the accepted S entries of a book": what the call answers, and the output after it.
 use Rattle.laws.specs.{ℕ, List, length, ℤ}
-use Rattle.refusals.specs.{Verdict, buffer_after}
+use Rattle.refusals.specs.{buffer_after}
 use Rattle.book_export.specs.{export_weighed, export_of}
 use Rattle.call_output.specs.{with_room}
 use Rattle.call_answer.specs.{answer_of}
