@@ -193,8 +193,7 @@ pub fn put_rows(book: &[u8], out: &mut [u8], at: usize) -> usize
         return at;
     }
     let default = schedules::schedule_six();
-    let none = holding::empty_area();
-    let mut areas = [none; MOST_AREAS];
+    let mut areas = [holding::empty_area(); MOST_AREAS];
     let mut numbers = [0u16; MOST_AREAS];
     let mut standing: usize = 0;
     let mut table = [0u16; LONGEST_TABLE];
@@ -206,18 +205,17 @@ pub fn put_rows(book: &[u8], out: &mut [u8], at: usize) -> usize
         let parsed = line::parse(&book[i..end]);
         let names = book_find::find(&numbers, standing, parsed);
         let found = names.found;
-        let mut named = none;
-        if let Found::At(k) = found {
-            if k < MOST_AREAS {
-                named = areas[k];
-            }
-        }
-        let looked = Looked {
+        let mut looked = Looked {
             number: names.number,
             count: standing,
             found,
-            area: named,
+            area: holding::empty_area(),
         };
+        if let Found::At(k) = found {
+            if k < MOST_AREAS {
+                looked.area = areas[k];
+            }
+        }
         let taken = take_line(
             &mut table,
             &mut count,

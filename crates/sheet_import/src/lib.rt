@@ -84,25 +84,27 @@ pub fn import(own: &[u16], statement: &[u8], sheet: &[u8], out: &mut [u8]) -> Wr
     let default = schedules::schedule_six();
     let mut unkept = [0u8; 1];
     let heading = read_row(sheet, 0);
-    let mut one = holding::empty_area();
+    let mut looked = Looked {
+        number: 0,
+        count,
+        found: Found::Nowhere,
+        area: holding::empty_area(),
+    };
     let mut at = heading.next;
     while at < sheet.len() {
         let row = read_row(sheet, at);
         let parsed = row.parsed;
         let names = book_find::find(&numbers, count, parsed);
         let found = names.found;
-        one = holding::empty_area();
+        looked.number = names.number;
+        looked.count = count;
+        looked.found = found;
+        looked.area = holding::empty_area();
         if let Found::At(k) = found {
             if k < MOST_AREAS {
-                one = areas[k];
+                looked.area = areas[k];
             }
         }
-        let looked = Looked {
-            number: names.number,
-            count,
-            found,
-            area: one,
-        };
         let Parsed::Taken(entry) = parsed else {
             return line_entry::refused_by(parsed);
         };
@@ -130,8 +132,8 @@ pub fn import(own: &[u16], statement: &[u8], sheet: &[u8], out: &mut [u8]) -> Wr
     let mut need = put_first(&mut unkept, 0, count);
     let mut j: usize = 0;
     while (j < MOST_AREAS) & (j < count) {
-        one = areas[j];
-        need = statement_write::put_area(&mut unkept, need, one);
+        looked.area = areas[j];
+        need = statement_write::put_area(&mut unkept, need, looked.area);
         j += 1;
     }
     if out.len() < need {
@@ -140,8 +142,8 @@ pub fn import(own: &[u16], statement: &[u8], sheet: &[u8], out: &mut [u8]) -> Wr
     let mut end = put_first(out, 0, count);
     let mut k: usize = 0;
     while (k < MOST_AREAS) & (k < count) {
-        one = areas[k];
-        end = statement_write::put_area(out, end, one);
+        looked.area = areas[k];
+        end = statement_write::put_area(out, end, looked.area);
         k += 1;
     }
     Written::Count(end)

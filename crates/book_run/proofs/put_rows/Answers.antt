@@ -5,7 +5,7 @@ use Rattle.text.specs.{greatest, line_end}
 use Rattle.text.proofs.Widths.{end_inside}
 use Rattle.text.proofs.Writes.{wrote_none, wrote_then, wrote_as, wrote-length}
 use Rattle.holding.specs.{Area, Holding, numbers_in}
-use Rattle.holding_look.specs.{area_at}
+use Rattle.holding_look.specs.{Looked, area_at}
 use Rattle.holding_look.proofs.Laws.{area_here, area-out, area_nowhere}
 use Rattle.step_outcome.specs.{placed}
 use Rattle.step_outcome.proofs.Laws.{placed_here, placed-out, placed_nowhere, placed-long}
@@ -31,12 +31,12 @@ pub loop-i-init : goal.loop-i-init
 unfolding start
 loop-i-init c = record {
   many = refl;
-  numbers = simp c.empty_area-none.ensures;
+  numbers = simp c.empty_area-areas.ensures;
   table = refl;
   fits = omega arith;
   long = refl;
   place = omega arith;
-  puts = λ o p w. rw c.empty_area-none.ensures at w;
+  puts = λ o p w. rw c.empty_area-areas.ensures at w;
 }
 
 pub slice_bounds-parse-end : goal.slice_bounds-parse-end
@@ -53,17 +53,22 @@ loop-i-preserved c =
     let put = c.put_row-at.ensures in
     let run = uncounted (take l.count l.table) (holding_of l.standing l.areas) in
     let line = take (end - l.i) (drop l.i book) in
-    let turn = c.take_line-taken.ensures in
-    let leaves = turn.leaves in
-    let none = c.empty_area-none.ensures in
-    let looks : (c.match-found.found ≡ c.find-names.result.found) × (c.match-found.named ≡ area_at run.holding c.find-names.result.found) =
+    let looks : c.match-found.looked ≡ record {
+      number = c.find-names.result.number;
+      count = l.standing;
+      found = c.find-names.result.found;
+      area = area_at run.holding c.find-names.result.found;
+    } =
+    let with : Area → Looked = λ a. record { number = c.find-names.result.number; count = l.standing; found = c.find-names.result.found; area = a } in
     elim c.match-found.branch [
       | in-At+then-k-lt-MOST_AREAS w ↦
-          (w.found-is ∙ sym w.in-At.is, w.named-is ∙ area_here _ _ _ _ w.in-At.is (omega (arith, w.if-k-lt-MOST_AREAS.true, l.invariant.many)))
+          w.looked-is ∙ ap with (area_here _ _ _ _ w.in-At.is (omega (arith, w.if-k-lt-MOST_AREAS.true, l.invariant.many)))
       | in-At+else-k-lt-MOST_AREAS w ↦
-          (w.found-is ∙ sym w.in-At.is, w.named-is ∙ none ∙ area-out _ _ _ w.in-At.is (omega (arith, w.if-k-lt-MOST_AREAS.false, l.invariant.many)))
-      | in_default w ↦ (w.found-is, w.named-is ∙ none ∙ area_nowhere _ _ w.in_default.is)
+          w.looked-is ∙ ap with (c.empty_area.ensures ∙ area-out _ _ _ w.in-At.is (omega (arith, w.if-k-lt-MOST_AREAS.false, l.invariant.many)))
+      | in_default w ↦ w.looked-is ∙ ap with (c.empty_area.ensures ∙ area_nowhere _ _ w.in_default.is)
     ] in
+    let turn = rw looks at c.take_line-taken.ensures in
+    let leaves = turn.leaves in
     let stands : holding_of c.match-place.standing c.match-place.areas ≡ placed run.holding outcome =
     elim c.match-place.branch [
       | in-At-place+then-k-lt-MOST_AREAS-2 w ↦ both w.standing-is w.areas-is ∙ placed_here _ _ _ w.in-At-place.is
@@ -77,12 +82,11 @@ loop-i-preserved c =
       | in-At-place+else-k-lt-MOST_AREAS-2 w ↦ simp (w.numbers-is, w.areas-is, l.invariant.numbers)
       | in_default-place w ↦ simp (w.numbers-is, w.areas-is, l.invariant.numbers)
     ] in
-    let area = looks.1 ∙ ap (area_at run.holding) (sym looks.0) in
     let six = c.schedule_six-default.ensures in
     let ran =
-    turn_runs run l.numbers l.invariant.numbers line _ _ _ _ _ outcome turn.comes c.parse-parsed.ensures c.find-names.ensures looks.0 area six _ _ leaves _ _ _ _
+    turn_runs run l.numbers l.invariant.numbers line _ _ _ _ _ outcome turn.comes c.parse-parsed.ensures c.find-names.ensures refl refl six _ _ leaves _ _ _ _
     stands refl refl refl in
-    let puts = turn_exports run l.numbers l.invariant.numbers line _ _ _ _ _ outcome turn.comes c.parse-parsed.ensures c.find-names.ensures looks.0 area six in
+    let puts = turn_exports run l.numbers l.invariant.numbers line _ _ _ _ _ outcome turn.comes c.parse-parsed.ensures c.find-names.ensures refl refl six in
     record {
       many = ap (λ (h : Holding). length h.areas) stands ∙ placed-long _ _ ∙ l.invariant.many;
       numbers = numbered;

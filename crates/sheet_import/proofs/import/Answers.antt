@@ -4,7 +4,7 @@ use Rattle.laws.proofs.Standing.{map-set}
 use Rattle.refusals.specs.{Refusal, Verdict}
 use Rattle.line_entry.specs.{Parsed, refused_by}
 use Rattle.holding.specs.{Area, Holding, most_areas, numbers_in}
-use Rattle.holding_look.specs.{area_at}
+use Rattle.holding_look.specs.{Looked, area_at}
 use Rattle.holding_look.proofs.Laws.{area_here, area-out, area_nowhere}
 use Rattle.step_outcome.specs.{Outcome, placed}
 use Rattle.step_outcome.proofs.Laws.{placed_here, placed-out, placed_nowhere, placed-long}
@@ -67,28 +67,32 @@ returns-in-Refused c =
 -- ---- the rows are taken
 
 -- the area looked up
-looks : (m : Joined-found) → (m.match-found.found ≡ m.find-names.result.found) × (m.match-found.one ≡ area_at (standing m.loop-at.count m.loop-at.areas) m.find-names.result.found)
+looks : (m : Joined-found) → m.match-found.looked ≡ record {
+  number = m.find-names.result.number;
+  count = m.loop-at.count;
+  found = m.find-names.result.found;
+  area = area_at (standing m.loop-at.count m.loop-at.areas) m.find-names.result.found;
+}
 looks m =
+    let with : Area → Looked = λ a. record { number = m.find-names.result.number; count = m.loop-at.count; found = m.find-names.result.found; area = a } in
     elim m.match-found.branch [
       | in-At+then-k-lt-MOST_AREAS w ↦
-          (w.found-is ∙ sym w.in-At.is, w.one-is ∙ area_here _ _ _ _ w.in-At.is (omega (arith, w.if-k-lt-MOST_AREAS.true, m.loop-at.invariant.0)))
-      | in-At+else-k-lt-MOST_AREAS w ↦ (
-        w.found-is ∙ sym w.in-At.is,
-        w.one-is ∙ m.empty_area-one-in-loop-at.ensures ∙ area-out _ _ _ w.in-At.is (omega (arith, w.if-k-lt-MOST_AREAS.false, m.loop-at.invariant.0)),
-      )
-      | in_default-found w ↦ (w.found-is, w.one-is ∙ m.empty_area-one-in-loop-at.ensures ∙ area_nowhere _ _ w.in_default-found.is)
+          w.looked-is ∙ ap with (area_here _ _ _ _ w.in-At.is (omega (arith, w.if-k-lt-MOST_AREAS.true, m.loop-at.invariant.0)))
+      | in-At+else-k-lt-MOST_AREAS w ↦
+          w.looked-is
+          ∙ ap with (m.empty_area-looked.ensures ∙ area-out _ _ _ w.in-At.is (omega (arith, w.if-k-lt-MOST_AREAS.false, m.loop-at.invariant.0)))
+      | in_default-found w ↦ w.looked-is ∙ ap with (m.empty_area-looked.ensures ∙ area_nowhere _ _ w.in_default-found.is)
     ]
 
 -- what a row comes to, by what it was read as and the area looked up
 comes_by : (m : Joined-found) (outcome : Outcome)
-    → outcome ≡ row_outcome m.args.own.now m.schedule_six-default.result
-    (record { number = m.find-names.result.number; count = m.loop-at.count; found = m.match-found.found; area = m.match-found.one }) m.read_row-row.result.parsed
+    → outcome ≡ row_outcome m.args.own.now m.schedule_six-default.result m.match-found.looked m.read_row-row.result.parsed
     → outcome ≡ line_taken m.args.own.now (standing m.loop-at.count m.loop-at.areas) (line_at m.args.sheet.now m.loop-at.at)
 comes_by m outcome o =
-    let area = (looks m).1 ∙ ap (area_at (standing m.loop-at.count m.loop-at.areas)) (sym (looks m).0) in
     outcome_is m.args.own.now (standing m.loop-at.count m.loop-at.areas) m.loop-at.numbers m.loop-at.invariant.1
-    (joined_from Reading.RowStart (drop m.loop-at.at m.args.sheet.now)) _ _ _ _ _ _ o m.read_row-row.ensures.parsed m.find-names.ensures (looks m).0 area
-    m.schedule_six-default.ensures
+    (joined_from Reading.RowStart (drop m.loop-at.at m.args.sheet.now)) _ _ _ _ _ _
+    (o ∙ ap (λ (x : Looked). row_outcome m.args.own.now m.schedule_six-default.result x m.read_row-row.result.parsed) (looks m))
+    m.read_row-row.ensures.parsed m.find-names.ensures refl refl m.schedule_six-default.ensures
 
 -- what the rows from the start come to is what the sheet does
 comes-to : (m : Joined-found) (imported : Imported)
