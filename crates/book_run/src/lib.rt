@@ -228,10 +228,9 @@ pub fn put_rows(book: &[u8], out: &mut [u8], at: usize) -> usize
         at = put_row(out, at, &book[i..end], parsed, verdict);
         let place = taken.place;
         if let Found::At(k) = place {
-            let area = taken.area;
             if k < MOST_AREAS {
-                areas[k] = area;
-                numbers[k] = area.number;
+                areas[k] = taken.area;
+                numbers[k] = taken.area.number;
             }
             standing = taken.count;
         }
