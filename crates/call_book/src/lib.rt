@@ -1,2 +1,0 @@
-// A book run line by line through the call. No code.
-#![tactic(auto)]

@@ -1,4 +1,0 @@
-pub mod Laying
-pub mod Widening
-pub mod Theorems
-pub mod Examples

@@ -1,2 +1,0 @@
-// Limits that are widened, and what stays. No code.
-#![tactic(auto)]

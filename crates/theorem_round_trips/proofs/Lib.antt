@@ -1,6 +1,0 @@
-pub mod Arrays
-pub mod Items
-pub mod Fitting
-pub mod WrittenReads
-pub mod ReadWrites
-pub mod Trips

@@ -1,2 +1,0 @@
-// What is written reads back, and what is read writes back. No code.
-#![tactic(auto)]

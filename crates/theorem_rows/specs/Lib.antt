@@ -1,2 +1,0 @@
-pub mod Rows
-pub use Rows.{has_field}

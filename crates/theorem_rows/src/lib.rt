@@ -1,2 +1,0 @@
-// Rows written and read again. No code.
-#![tactic(auto)]
