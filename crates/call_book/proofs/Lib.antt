@@ -1,0 +1,10 @@
+pub mod Split
+pub mod ColumnLines
+pub mod Tables
+pub mod Taken
+pub mod Answers
+pub mod Feet
+pub mod CallsList
+pub mod Lengths
+pub mod Bound
+pub mod Imports

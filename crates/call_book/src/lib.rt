@@ -1,0 +1,2 @@
+// A book run line by line through the call. No code.
+#![tactic(auto)]

@@ -1,0 +1,4 @@
+pub mod Laying
+pub mod Widening
+pub mod Theorems
+pub mod Examples

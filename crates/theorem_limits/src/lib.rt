@@ -1,0 +1,2 @@
+// Limits that are widened, and what stays. No code.
+#![tactic(auto)]

@@ -1,0 +1,6 @@
+pub mod Arrays
+pub mod Items
+pub mod Fitting
+pub mod WrittenReads
+pub mod ReadWrites
+pub mod Trips

@@ -1,0 +1,2 @@
+// What is written reads back, and what is read writes back. No code.
+#![tactic(auto)]

@@ -1,0 +1,2 @@
+// Rows written and read again. No code.
+#![tactic(auto)]

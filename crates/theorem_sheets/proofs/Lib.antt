@@ -1,0 +1,12 @@
+pub mod Searches
+pub mod Taken
+pub mod Changes
+pub mod Views
+pub mod Alone
+pub mod OpensFirst
+pub mod Lines
+pub mod Rows
+pub mod Imports
+pub mod GivingBack
+pub mod Steps
+pub mod Examples
