@@ -23,6 +23,7 @@ fn note(starts: &mut [usize], k: usize, start: usize)
 }
 
 // The field scan stands in the line scan and is left with the place where the field ends.
+#[tactic(auto, using(text::proofs::Widths::end_later))]
 pub fn scan(line: &[u8]) -> Places
     ensures { result ≡ places_of (split line.now) }
 {

@@ -15,5 +15,5 @@ returns-then-out-need c =
 
 pub returns : goal.returns
 returns c =
-    let all = accepted _ _ c.put_listing-need.ensures (bounded c.args.book.now) _ _ _ c.if-out-need.false c.put_listing-count-2.ensures in
+    let all = accepted _ _ c.put_listing-need.ensures (bounded c.args.book.now) _ _ _ (omega arith) c.put_listing-count-2.ensures in
     record { value = all.0; out_after = all.1 }

@@ -12,5 +12,5 @@ returns-then-out-need c =
 pub returns : goal.returns
 returns c =
     let measured = c.put_statement-need.ensures in
-    let r = accepted _ _ measured.wrote (omega (arith, measured.holding_len_bound)) _ _ _ c.if-out-need.false c.put_statement-count.ensures.wrote in
+    let r = accepted _ _ measured.wrote (omega (arith, measured.holding_len_bound)) _ _ _ (omega arith) c.put_statement-count.ensures.wrote in
     record { value = r.0; out_after = r.1 }

@@ -2,7 +2,7 @@
 -- count; the field scan's: the end of the field, seen from i, is where it was at the field's start.
 use Rattle.laws.proofs.{ℕ, List, ◌+◌, ◌≤◌, ◌≡◌, ◌∙◌, arith, length, drop}
 use Rattle.text.specs.{comma, width_to, split}
-use Rattle.text.proofs.Widths.{end_later, end_here, end_last}
+use Rattle.text.proofs.Widths.{end_here, end_last}
 use Rattle.text_field.specs.{places_of}
 use Rattle.text_field.proofs.Laws.{count_next, count_last, note_next, note_last}
 use Rattle.text_field.proofs.scan.Goals as goal
@@ -11,11 +11,6 @@ use Rattle.text_field.proofs.scan.Goals.{then-line-i, else-line-i+then-line-i-eq
 -- what is known where the two ways out of the field scan meet: `end` is the field's end
 abbrev Ended : List ℕ → ℕ → ℕ → Type 0
 Ended s start end = (start ≤ end) × (end ≤ length s) × (end ≡ start + width_to comma (drop start s))
-
-pub field-preserved : goal.field-preserved
-field-preserved c =
-    let later = end_later comma c.args.line.now c.field.i c.if-line-i.false c.if-line-i-eq44.false in
-    (omega arith, omega arith, omega arith)
 
 pub line-preserved : goal.line-preserved
 line-preserved c =
