@@ -1,4 +1,5 @@
 -- `book_list::list` meets its contract: the listing is measured where there might be no room for it, and written where there is.
+use Rattle.laws.proofs.{arith}
 use Rattle.statement_write.proofs.Writable.{refused, accepted}
 use Rattle.book_list.proofs.Room.{bounded, unmeasured}
 use Rattle.book_list.proofs.list.Goals as goal
