@@ -1,49 +1,19 @@
--- The two round trips of demand 2, over every holding and every list of bytes; from them, when a statement is accepted, and that what entries reach
+-- What follows from the two round trips of demand 2, over every holding and every list of bytes: when a statement is accepted, and that what entries reach
 -- is written and read back as it was.
-use Rattle.laws.proofs.{ℕ, ◌<◌, ◌≡◌, sym, ap, subst, ◌∙◌, List, arith, length}
+use Rattle.laws.proofs.{ℕ, ◌≡◌, sym, ap, ◌∙◌, List}
 use mathlib.Core.Logic.{◌↔◌}
 use Rattle.refusals.specs.{Verdict}
 use Rattle.line_entry.specs.{AreaAct}
 use Rattle.holding.specs.{Holding, empty_holding}
 use Rattle.step_outcome.specs.{placed}
 use Rattle.step.specs.{stepped, holding_from}
-use Rattle.statement_carried.specs.{Limits, limits}
-use Rattle.theorem_keeping.specs.{KeptWithin, Kept}
+use Rattle.statement_carried.specs.{limits}
+use Rattle.theorem_keeping.specs.{Kept}
 use Rattle.theorem_keeping.proofs.Keeping.{step_keeps, list_keeps, reached-kept}
-use Rattle.statement_format.specs.{start_text, joined, statement_of}
-use Rattle.statement_parse.specs.{holding_within}
-use Rattle.statement.specs.{Read, read_within, read_of}
-use Rattle.statement_places.proofs.Places.{Stands, stands_whole, whole_stands}
-use Rattle.theorem_round_trips.proofs.WrittenReads.{holding_here}
-use Rattle.theorem_round_trips.proofs.ReadWrites.{holding_there, holding-tidy}
-use Rattle.statement.proofs.Accepted.{accepted-read, read-accepted, read-holding}
-
-statement-some : (holding : Holding) → 0 < length (statement_of holding)
-unfolding statement_of joined start_text
-statement-some holding = omega arith
-
--- a holding that a statement carries, written, reads back the same
-pub written_reads : (holding : Holding) → Kept holding → read_of (statement_of holding) ≡ record { verdict = Verdict.Accepted; holding = holding }
-written_reads holding kept =
-    let s = statement_of holding in
-    accepted-read limits s holding (holding_here s (length s) holding kept (stands_whole s)) (statement-some holding) kept.carries
-
--- whatever the limits are
-module _ (most : Limits) (s : List ℕ) (clear : (read_within most s).verdict ≡ Verdict.Accepted) where
-  same-holding : (read_within most s).holding ≡ (holding_within most.subs s).holding
-  same-holding = ap (λ (r : Read). r.holding) (read-holding most s clear)
-
-  -- a statement that is read writes back to the same bytes
-  pub read_writes : statement_of (read_within most s).holding ≡ s
-  read_writes =
-      let accepted = read-accepted most s clear in
-      let there = holding_there most.subs s accepted.started in
-      ap statement_of same-holding
-      ∙ sym (whole_stands (subst (λ (p : ℕ). Stands s 0 (statement_of (holding_within most.subs s).holding) p) accepted.ended there))
-
-  -- and what is read of it, a statement carries
-  pub read_kept : KeptWithin most (read_within most s).holding
-  read_kept = subst (KeptWithin most) (sym same-holding) (record { carries = (read-accepted most s clear).carries; tidy = holding-tidy most.subs s })
+use Rattle.statement_format.specs.{statement_of}
+use Rattle.statement.specs.{Read, read_of}
+pub use Rattle.theorem_round_trips.proofs.Holdings.{written_reads}
+pub use Rattle.theorem_round_trips.proofs.Statements.{read_writes, read_kept}
 
 -- a holding that a statement carries is the only one that its statement is read as
 pub accepts_that : (s : List ℕ) (holding : Holding) → Kept holding → statement_of holding ≡ s → read_of s ≡ record { verdict = Verdict.Accepted; holding = holding }
