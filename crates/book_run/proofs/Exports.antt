@@ -8,7 +8,7 @@ use Rattle.schedules.specs.{schedule6}
 use Rattle.table.specs.{longest_table}
 use Rattle.line_entry.specs.{AreaAct, Entry, Parsed}
 use Rattle.line.specs.{entry_of}
-use Rattle.holding.specs.{Area, Holding}
+use Rattle.holding.specs.{Holding}
 use Rattle.statement_format.specs.{texts}
 use Rattle.step_outcome.specs.{Outcome, answered, placed}
 use Rattle.step_outcome.proofs.Laws.{answered-verdict}
@@ -29,27 +29,28 @@ pub record Went (run : Run) (line out : List ℕ) (at : ℕ) (table : List ℕ) 
   pub wrote : Wrote out at (sheet_text (exported_row run line)) after place
 
 -- the same by what the line was read as
-record WentAs (run : Run) (line : List ℕ) (parsed : Parsed) (out : List ℕ) (at : ℕ) (table : List ℕ) (count : ℕ) (holding : Holding) (after : List ℕ) (place : ℕ) : Type 0 where
-  leaves : Fronts table count (if_accepted (parsed_taken run.own run.holding line parsed).verdict (parsed_table run.own line parsed) run.own)
-  stands : holding ≡ placed run.holding (parsed_taken run.own run.holding line parsed)
-  wrote : Wrote out at (sheet_text (exported_for (parsed_taken run.own run.holding line parsed).verdict parsed line)) after place
+record WentAs (run : Run) (line : List ℕ) (read : Parsed) (out : List ℕ) (at : ℕ) (table : List ℕ) (count : ℕ) (holding : Holding) (after : List ℕ)
+    (place : ℕ) : Type 0 where
+  leaves : Fronts table count (if_accepted (parsed_taken run.own run.holding line read).verdict (parsed_table run.own line read) run.own)
+  stands : holding ≡ placed run.holding (parsed_taken run.own run.holding line read)
+  wrote : Wrote out at (sheet_text (exported_for (parsed_taken run.own run.holding line read).verdict read line)) after place
 
-module _ (numbers : List ℕ) (count : ℕ) (fits : count ≤ longest_table) (long : length numbers ≡ longest_table) (holding : Holding) (line : List ℕ) (parsed : Parsed)
-    (p : parsed ≡ entry_of line) (out : List ℕ) (at : ℕ) (lent : length out ≤ greatest) (inside : at ≤ greatest) where
+module _ (numbers : List ℕ) (count : ℕ) (fits : count ≤ longest_table) (long : length numbers ≡ longest_table) (holding : Holding) (line : List ℕ)
+    (parsed : Parsed) (p : parsed ≡ entry_of line) (out : List ℕ) (at : ℕ) (lent : length out ≤ greatest) (inside : at ≤ greatest) where
   abbrev own : List ℕ
   own = take count numbers
 
   abbrev run : Run
   run = uncounted own holding
 
-  went : (read : Parsed) → parsed ≡ read → (table : List ℕ) (left : ℕ) (then : Holding) (after : List ℕ) (place : ℕ) → WentAs run line read out at table left then after place
-      → Went run line out at table left then after place
+  went : (read : Parsed) → parsed ≡ read → (table : List ℕ) (left : ℕ) (then : Holding) (after : List ℕ) (place : ℕ)
+      → WentAs run line read out at table left then after place → Went run line out at table left then after place
   unfolding exported_row table_after line_taken
   went read e table left then after place w =
       let turn = subst (λ (x : Parsed). WentAs run line x out at table left then after place) (sym e ∙ p) w in
       record { leaves = turn.leaves; stands = turn.stands; wrote = turn.wrote }
 
-  -- no row is put
+  -- a row is put for no line but an act's
   none : (rows : List Row) → rows ≡ [] → Wrote out at (sheet_text rows) out at
   unfolding sheet_text texts
   none rows e = wrote_as (ap sheet_text (sym e)) (wrote_none out at lent inside)

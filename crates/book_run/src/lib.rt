@@ -75,7 +75,7 @@ fn take_line(
     step::apply_to(&own[0..*count], default, looked, act)
 }
 
-// Puts the area that an outcome has at its place among the areas, and its number among theirs; where it has no place, nothing changes.
+// Sets the area that an outcome leaves at its place, and its number among the numbers; where it has no place, nothing changes.
 fn place(
     areas: &mut [Area; MOST_AREAS],
     numbers: &mut [u16; MOST_AREAS],
@@ -95,7 +95,7 @@ fn place(
     }
 }
 
-// Takes an act on the area that it names, where the areas stand alone, so many of them, with their numbers beside them; the answer is the verdict.
+// Takes an act on the area that it names, among areas of which so many stand, with their numbers beside them; the answer is the verdict.
 fn take_act(
     own: &[u16],
     default: &[u16],
@@ -259,6 +259,7 @@ pub fn put_rows(book: &[u8], out: &mut [u8], at: usize) -> usize
     while i < book.len() {
         let end = text::end_of(book, i, b'\n');
         let parsed = line::parse(&book[i..end]);
+        // A refused line changes nothing, and a row is put for an act alone.
         if let Parsed::Taken(entry) = parsed {
             match entry {
                 Entry::Column { column: _ } => {

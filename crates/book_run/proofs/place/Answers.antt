@@ -1,5 +1,5 @@
 -- `book_run::place` meets its contract, by the place of the outcome.
-use Rattle.laws.proofs.{ap, ◌∙◌, List, arith, length}
+use Rattle.laws.proofs.{ap, ◌∙◌, List, arith}
 use Rattle.laws.proofs.Standing.{map-set}
 use Rattle.holding.specs.{Area, Holding}
 use Rattle.step_outcome.proofs.Laws.{placed_here, placed-out, placed_nowhere}

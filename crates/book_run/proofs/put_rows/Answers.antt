@@ -1,14 +1,10 @@
 -- `book_run::put_rows` meets its contract: a turn of the loop is a turn of the fold, and a line's row is put where it is exported.
 use Rattle.laws.proofs.{ℕ, ◌-◌, ◌≤◌, ◌≡◌, refl, sym, ap, ◌∙◌, List, arith, length, take, drop}
-use Rattle.laws.proofs.Standing.{map-set}
 use Rattle.text.specs.{greatest, line_end}
 use Rattle.text.proofs.Widths.{end_inside}
 use Rattle.text.proofs.Writes.{wrote_none, wrote_then, wrote_as, wrote-length}
 use Rattle.holding.specs.{Holding, numbers_in}
-use Rattle.holding_look.specs.{Looked, area_at}
-use Rattle.holding_look.proofs.Laws.{area_here, area-out, area_nowhere}
-use Rattle.step_outcome.specs.{placed}
-use Rattle.step_outcome.proofs.Laws.{placed_here, placed-out, placed_nowhere, placed-long}
+use Rattle.step_outcome.proofs.Laws.{placed-long}
 use Rattle.sheet_write.specs.{sheet_text}
 use Rattle.book_export.specs.{exported_from}
 use Rattle.book_listing.specs.{start}
@@ -51,22 +47,27 @@ loop-i-preserved c =
     let bounded : length c.args.out.now ≤ greatest = omega arith in
     let lent : length l.out ≤ greatest = omega (arith, l.invariant.long, bounded) in
     let read = c.parse-parsed.ensures in
+    let six = c.schedule_six-default.ensures in
     let came : Went run line l.out l.at m.table m.count (holding_of m.standing m.areas) m.out m.at × (m.numbers ≡ numbers_in m.areas) =
     elim m.branch [
       | in-Taken+in-Column w ↦
-          rw (w.table-is, w.count-is, w.standing-is, w.areas-is, w.out-is, w.at-is, w.numbers-is)
-          (went_column l.table l.count l.invariant.fits l.invariant.table run.holding line _ read l.out l.at lent l.invariant.place _ _ w.in-Taken.is w.in-Column.is _ _
-          w.take_column.ensures.table_after w.take_column.ensures.count_after,
-          l.invariant.numbers)
+          rw (w.table-is, w.count-is, w.standing-is, w.areas-is, w.out-is, w.at-is, w.numbers-is) (
+            went_column l.table l.count l.invariant.fits l.invariant.table run.holding line _ read l.out l.at lent l.invariant.place _ _
+                w.in-Taken.is w.in-Column.is _ _ w.take_column.ensures.table_after w.take_column.ensures.count_after,
+            l.invariant.numbers,
+          )
       | in-Taken+in-On w ↦
-          rw (w.table-is, w.count-is, w.standing-is, w.areas-is, w.out-is, w.at-is, w.numbers-is)
-          (went_act l.table l.count l.invariant.fits l.invariant.table run.holding line _ read l.out l.at lent l.invariant.place _ _ w.in-Taken.is w.in-On.is _
-          c.schedule_six-default.ensures _ w.take_act-verdict.ensures.value _ w.take_act-verdict.ensures.areas_after w.put_row-at.new.out w.put_row-at.result w.put_row-at.ensures,
-          w.take_act-verdict.ensures.numbers_after)
+          let act = w.take_act-verdict.ensures in
+          rw (w.table-is, w.count-is, w.standing-is, w.areas-is, w.out-is, w.at-is, w.numbers-is) (
+            went_act l.table l.count l.invariant.fits l.invariant.table run.holding line _ read l.out l.at lent l.invariant.place _ _
+                w.in-Taken.is w.in-On.is _ six _ act.value _ act.areas_after w.put_row-at.new.out w.put_row-at.result w.put_row-at.ensures,
+            act.numbers_after,
+          )
       | in_default w ↦
-          rw (w.table-is, w.count-is, w.standing-is, w.areas-is, w.out-is, w.at-is, w.numbers-is)
-          (went_refused l.table l.count l.invariant.fits l.invariant.table run.holding line _ read l.out l.at lent l.invariant.place _ w.in_default.is,
-          l.invariant.numbers)
+          rw (w.table-is, w.count-is, w.standing-is, w.areas-is, w.out-is, w.at-is, w.numbers-is) (
+            went_refused l.table l.count l.invariant.fits l.invariant.table run.holding line _ read l.out l.at lent l.invariant.place _ w.in_default.is,
+            l.invariant.numbers,
+          )
     ] in
     let went = came.0 in
     let put = went.wrote in

@@ -1,8 +1,8 @@
 -- `book_run::take_act` meets its contract: the area that it looks up is the one that the act names.
-use Rattle.laws.proofs.{◌≡◌, refl, ap, ◌∙◌, arith, length}
+use Rattle.laws.proofs.{◌≡◌, refl, ap, ◌∙◌, arith}
 use Rattle.holding.specs.{Area}
 use Rattle.holding_look.specs.{Looked, area_at, looked_up}
-use Rattle.holding_look.proofs.Laws.{area_here, area-out, area_nowhere, looked_as}
+use Rattle.holding_look.proofs.Laws.{area_here, area-out, area_nowhere}
 use Rattle.step_outcome.specs.{Outcome, placed}
 use Rattle.step.specs.{acted, applied}
 use Rattle.book_find.proofs.Naming.{looked_for_lem, looked_up_lem}
