@@ -5,7 +5,9 @@ ghost use Rattle.std.specs.Prelude.{◌≡◌, ◌≤◌, length, take};
 ghost use Rattle.table.specs.{longest_table};
 ghost use Rattle.book_reached.specs.{may_run_from};
 ghost use Rattle.text.specs.{Wrote};
-ghost use Rattle.step_outcome.specs.{answered};
+ghost use Rattle.holding.specs.{Holding, numbers_in};
+ghost use Rattle.step_outcome.specs.{answered, placed};
+ghost use Rattle.step.specs.{applied};
 ghost use Rattle.book_listing.specs.{start, lines_run, column_taken};
 ghost use Rattle.sheet_write.specs.{sheet_text};
 ghost use Rattle.book_export.specs.{exported_for, exported_from};
@@ -13,9 +15,9 @@ ghost use Rattle.book_run.specs.{refusal_in, Turn, RunsIf};
 
 use book_listing::LONGEST_BOOK;
 use book_reached::Reached;
-use holding::{Found, MOST_AREAS};
+use holding::{Area, Found, MOST_AREAS};
 use holding_look::Looked;
-use line_entry::{Entry, Parsed};
+use line_entry::{AreaAct, Entry, Parsed};
 use refusals::{Refusal, Verdict};
 use step_outcome::{Outcome, Report};
 use table::LONGEST_TABLE;
@@ -71,6 +73,60 @@ fn take_line(
     let own = &table[..];
     let act = on.act;
     step::apply_to(&own[0..*count], default, looked, act)
+}
+
+// Sets the area that an outcome leaves at its place, and its number among the numbers; where it has no place, nothing changes.
+fn place(
+    areas: &mut [Area; MOST_AREAS],
+    numbers: &mut [u16; MOST_AREAS],
+    standing: &mut usize,
+    outcome: &Outcome,
+)
+    requires { numbers.old ≡ numbers_in areas.old }
+    ensures areas_after { record { count = standing.new; areas = areas.new } ≡ placed (record { count = standing.old; areas = areas.old }) outcome.now }
+    ensures numbers_after { numbers.new ≡ numbers_in areas.new }
+{
+    if let Found::At(k) = outcome.place {
+        if k < MOST_AREAS {
+            areas[k] = outcome.area;
+            numbers[k] = outcome.area.number;
+        }
+        *standing = outcome.count;
+    }
+}
+
+// Takes an act on the area that it names, among areas of which so many stand, with their numbers beside them; the answer is the verdict.
+fn take_act(
+    own: &[u16],
+    default: &[u16],
+    areas: &mut [Area; MOST_AREAS],
+    numbers: &mut [u16; MOST_AREAS],
+    standing: &mut usize,
+    on: AreaAct,
+) -> Verdict
+    requires { numbers.old ≡ numbers_in areas.old }
+    ensures value { result ≡ (applied own.now default.now (record { count = standing.old; areas = areas.old }) on).verdict }
+    ensures areas_after { let holding : Holding = record { count = standing.old; areas = areas.old }
+        in record { count = standing.new; areas = areas.new } ≡ placed holding (applied own.now default.now holding on) }
+    ensures numbers_after { numbers.new ≡ numbers_in areas.new }
+{
+    let names = book_find::find(numbers, *standing, Parsed::Taken(Entry::On(on)));
+    let found = names.found;
+    let mut looked = Looked {
+        number: names.number,
+        count: *standing,
+        found,
+        area: holding::empty_area(),
+    };
+    if let Found::At(k) = found {
+        if k < MOST_AREAS {
+            looked.area = areas[k];
+        }
+    }
+    let act = on.act;
+    let outcome = step::apply_to(own, default, looked, act);
+    place(areas, numbers, standing, &outcome);
+    outcome.verdict
 }
 
 // Puts the row of a line, as it was read and by its verdict, where it is an accepted S entry; the answer is the place after what was put.
@@ -203,36 +259,25 @@ pub fn put_rows(book: &[u8], out: &mut [u8], at: usize) -> usize
     while i < book.len() {
         let end = text::end_of(book, i, b'\n');
         let parsed = line::parse(&book[i..end]);
-        let names = book_find::find(&numbers, standing, parsed);
-        let found = names.found;
-        let mut looked = Looked {
-            number: names.number,
-            count: standing,
-            found,
-            area: holding::empty_area(),
-        };
-        if let Found::At(k) = found {
-            if k < MOST_AREAS {
-                looked.area = areas[k];
+        // A refused line changes nothing, and a row is put for an act alone.
+        if let Parsed::Taken(entry) = parsed {
+            match entry {
+                Entry::Column { column: _ } => {
+                    book_column::take_column(&mut table, &mut count, standing, &book[i..end]);
+                }
+                Entry::On(on) => {
+                    let own = &table[..];
+                    let verdict = take_act(
+                        &own[0..count],
+                        &default,
+                        &mut areas,
+                        &mut numbers,
+                        &mut standing,
+                        on,
+                    );
+                    at = put_row(out, at, &book[i..end], parsed, verdict);
+                }
             }
-        }
-        let taken = take_line(
-            &mut table,
-            &mut count,
-            &default,
-            looked,
-            &book[i..end],
-            parsed,
-        );
-        let verdict = taken.verdict;
-        at = put_row(out, at, &book[i..end], parsed, verdict);
-        let place = taken.place;
-        if let Found::At(k) = place {
-            if k < MOST_AREAS {
-                areas[k] = taken.area;
-                numbers[k] = taken.area.number;
-            }
-            standing = taken.count;
         }
         i = end + 1;
     }

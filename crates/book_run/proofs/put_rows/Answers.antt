@@ -1,26 +1,18 @@
 -- `book_run::put_rows` meets its contract: a turn of the loop is a turn of the fold, and a line's row is put where it is exported.
 use Rattle.laws.proofs.{ℕ, ◌-◌, ◌≤◌, ◌≡◌, refl, sym, ap, ◌∙◌, List, arith, length, take, drop}
-use Rattle.laws.proofs.Standing.{map-set}
 use Rattle.text.specs.{greatest, line_end}
 use Rattle.text.proofs.Widths.{end_inside}
 use Rattle.text.proofs.Writes.{wrote_none, wrote_then, wrote_as, wrote-length}
-use Rattle.holding.specs.{Area, Holding, numbers_in}
-use Rattle.holding_look.specs.{Looked, area_at}
-use Rattle.holding_look.proofs.Laws.{area_here, area-out, area_nowhere}
-use Rattle.step_outcome.specs.{placed}
-use Rattle.step_outcome.proofs.Laws.{placed_here, placed-out, placed_nowhere, placed-long}
+use Rattle.holding.specs.{Holding, numbers_in}
+use Rattle.step_outcome.proofs.Laws.{placed-long}
 use Rattle.sheet_write.specs.{sheet_text}
 use Rattle.book_export.specs.{exported_from}
 use Rattle.book_listing.specs.{start}
 use Rattle.book_listing.proofs.Lines.{lines_none, lines_run_lem}
-use Rattle.book_run.proofs.Following.{turn_exports, turn_runs}
-use Rattle.book_run.proofs.Rows.{uncounted, holding_of, rows_alike, rows_over, lines_next, rows_line, rows_none}
+use Rattle.book_run.proofs.Exports.{Went, went_refused, went_column, went_act}
+use Rattle.book_run.proofs.Rows.{uncounted, holding_of, rows_over, lines_next, rows_line, rows_none}
 use Rattle.book_run.proofs.put_rows.Goals as goal
-use Rattle.book_run.proofs.put_rows.Goals.{in-At+then-k-lt-MOST_AREAS, in-At+else-k-lt-MOST_AREAS, in_default, in-At-place+then-k-lt-MOST_AREAS-2, in-At-place+else-k-lt-MOST_AREAS-2, in_default-place}
-
--- the holding after a line
-both : {n m : ℕ} {xs ys : List Area} → n ≡ m → xs ≡ ys → holding_of n xs ≡ holding_of m ys
-both {n} {m} {xs} {ys} e f = ap (λ (k : ℕ). holding_of k xs) e ∙ ap (holding_of m) f
+use Rattle.book_run.proofs.put_rows.Goals.{in-Taken+in-Column, in-Taken+in-On, in_default}
 
 pub returns-then-book-gt-LONGEST_BOOK : goal.returns-then-book-gt-LONGEST_BOOK
 returns-then-book-gt-LONGEST_BOOK c =
@@ -47,57 +39,48 @@ slice_bounds-parse-end c =
 pub loop-i-preserved : goal.loop-i-preserved
 loop-i-preserved c =
     let l = c.loop-i in
+    let m = c.match-parsed in
     let book = c.args.book.now in
     let end = c.end_of-end.result in
-    let outcome = c.take_line-taken.result in
-    let put = c.put_row-at.ensures in
     let run = uncounted (take l.count l.table) (holding_of l.standing l.areas) in
     let line = take (end - l.i) (drop l.i book) in
-    let looks : c.match-found.looked ≡ record {
-      number = c.find-names.result.number;
-      count = l.standing;
-      found = c.find-names.result.found;
-      area = area_at run.holding c.find-names.result.found;
-    } =
-    let with : Area → Looked = λ a. record { number = c.find-names.result.number; count = l.standing; found = c.find-names.result.found; area = a } in
-    elim c.match-found.branch [
-      | in-At+then-k-lt-MOST_AREAS w ↦
-          w.looked-is ∙ ap with (area_here _ _ _ _ w.in-At.is (omega (arith, w.if-k-lt-MOST_AREAS.true, l.invariant.many)))
-      | in-At+else-k-lt-MOST_AREAS w ↦
-          w.looked-is ∙ ap with (c.empty_area.ensures ∙ area-out _ _ _ w.in-At.is (omega (arith, w.if-k-lt-MOST_AREAS.false, l.invariant.many)))
-      | in_default w ↦ w.looked-is ∙ ap with (c.empty_area.ensures ∙ area_nowhere _ _ w.in_default.is)
-    ] in
-    let turn = rw looks at c.take_line-taken.ensures in
-    let leaves = turn.leaves in
-    let stands : holding_of c.match-place.standing c.match-place.areas ≡ placed run.holding outcome =
-    elim c.match-place.branch [
-      | in-At-place+then-k-lt-MOST_AREAS-2 w ↦ both w.standing-is w.areas-is ∙ placed_here _ _ _ w.in-At-place.is
-      | in-At-place+else-k-lt-MOST_AREAS-2 w ↦
-          both w.standing-is w.areas-is ∙ placed-out _ _ _ w.in-At-place.is (omega (arith, w.if-k-lt-MOST_AREAS-2.false, l.invariant.many))
-      | in_default-place w ↦ both w.standing-is w.areas-is ∙ placed_nowhere _ _ w.in_default-place.is
-    ] in
-    let numbered : c.match-place.numbers ≡ numbers_in c.match-place.areas =
-    elim c.match-place.branch [
-      | in-At-place+then-k-lt-MOST_AREAS-2 w ↦ simp (w.numbers-is, w.areas-is, map-set, l.invariant.numbers)
-      | in-At-place+else-k-lt-MOST_AREAS-2 w ↦ simp (w.numbers-is, w.areas-is, l.invariant.numbers)
-      | in_default-place w ↦ simp (w.numbers-is, w.areas-is, l.invariant.numbers)
-    ] in
+    let bounded : length c.args.out.now ≤ greatest = omega arith in
+    let lent : length l.out ≤ greatest = omega (arith, l.invariant.long, bounded) in
+    let read = c.parse-parsed.ensures in
     let six = c.schedule_six-default.ensures in
-    let ran =
-    turn_runs run l.numbers l.invariant.numbers line _ _ _ _ _ outcome turn.comes c.parse-parsed.ensures c.find-names.ensures refl refl six _ _ leaves _ _ _ _
-    stands refl refl refl in
-    let puts = turn_exports run l.numbers l.invariant.numbers line _ _ _ _ _ outcome turn.comes c.parse-parsed.ensures c.find-names.ensures refl refl six in
+    let came : Went run line l.out l.at m.table m.count (holding_of m.standing m.areas) m.out m.at × (m.numbers ≡ numbers_in m.areas) =
+    elim m.branch [
+      | in-Taken+in-Column w ↦
+          rw (w.table-is, w.count-is, w.standing-is, w.areas-is, w.out-is, w.at-is, w.numbers-is) (
+            went_column l.table l.count l.invariant.fits l.invariant.table run.holding line _ read l.out l.at lent l.invariant.place _ _
+                w.in-Taken.is w.in-Column.is _ _ w.take_column.ensures.table_after w.take_column.ensures.count_after,
+            l.invariant.numbers,
+          )
+      | in-Taken+in-On w ↦
+          let act = w.take_act-verdict.ensures in
+          rw (w.table-is, w.count-is, w.standing-is, w.areas-is, w.out-is, w.at-is, w.numbers-is) (
+            went_act l.table l.count l.invariant.fits l.invariant.table run.holding line _ read l.out l.at lent l.invariant.place _ _
+                w.in-Taken.is w.in-On.is _ six _ act.value _ act.areas_after w.put_row-at.new.out w.put_row-at.result w.put_row-at.ensures,
+            act.numbers_after,
+          )
+      | in_default w ↦
+          rw (w.table-is, w.count-is, w.standing-is, w.areas-is, w.out-is, w.at-is, w.numbers-is) (
+            went_refused l.table l.count l.invariant.fits l.invariant.table run.holding line _ read l.out l.at lent l.invariant.place _ w.in_default.is,
+            l.invariant.numbers,
+          )
+    ] in
+    let went = came.0 in
+    let put = went.wrote in
     record {
-      many = ap (λ (h : Holding). length h.areas) stands ∙ placed-long _ _ ∙ l.invariant.many;
-      numbers = numbered;
-      table = leaves.whole;
-      fits = leaves.fits;
+      many = ap (λ (h : Holding). length h.areas) went.stands ∙ placed-long _ _ ∙ l.invariant.many;
+      numbers = came.1;
+      table = went.leaves.whole;
+      fits = went.leaves.fits;
       long = wrote-length put ∙ l.invariant.long;
       place = omega (arith, put.place);
       puts = λ o p w.
           l.invariant.puts o p
-          (wrote_as (rows_line run line _ _ _ ran (lines_next book l.i end c.loop-i-test.true c.end_of-end.ensures))
-          (wrote_then (wrote_as (ap sheet_text puts) put) (wrote_as (rows_alike _ _) w)));
+          (wrote_as (rows_line run line _ _ _ _ went.leaves.front went.stands (lines_next book l.i end c.loop-i-test.true c.end_of-end.ensures)) (wrote_then put w));
     }
 
 pub returns : goal.returns
