@@ -11,6 +11,7 @@ use Rattle.book_listing.specs.{parsed_taken, line_taken, parsed_table, if_accept
 use Rattle.book_find.specs.{Named, named_by}
 use Rattle.book_find.proofs.Naming.{looked_for, looked_for_lem}
 use Rattle.book_column.specs.{Fronts}
+use Rattle.book_export.specs.{exported_for, exported_row}
 use Rattle.book_run.specs.{parsed_outcome}
 use Rattle.book_run.proofs.Turns.{turn_taken}
 
@@ -35,6 +36,12 @@ module _ (run : Run) (area_numbers : List ℕ) (i : area_numbers ≡ numbers_in 
   pub turn_prints : printed_for (run.accepted + run.refused + 1) outcome.verdict outcome ≡ printed run line
   unfolding printed
   turn_prints = ap (λ (o : Outcome). printed_for (run.accepted + run.refused + 1) o.verdict o) outcome_is
+
+  pub turn_exports : exported_for outcome.verdict parsed line ≡ exported_row run line
+  unfolding exported_row
+  turn_exports =
+      ap (λ (o : Outcome). exported_for o.verdict parsed line) outcome_is
+      ∙ ap (λ (x : Parsed). exported_for (line_taken run.own run.holding line).verdict x line) p
 
   pub turn_runs : (numbers : List ℕ) (count : ℕ) → Fronts numbers count (if_accepted outcome.verdict (parsed_table run.own line parsed) run.own)
       → (holding : Holding) (accepted refused taken : ℕ)

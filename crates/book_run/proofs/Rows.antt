@@ -30,7 +30,7 @@ uncounted own holding = record { own = own; holding = holding; accepted = 0; ref
 abbrev pub holding_of : ℕ → List Area → Holding
 holding_of standing areas = record { count = standing; areas = areas }
 
-rows_alike : (run : Run) (lines : List (List ℕ)) → sheet_text (exported_from (uncounted run.own run.holding) lines) ≡ sheet_text (exported_from run lines)
+pub rows_alike : (run : Run) (lines : List (List ℕ)) → sheet_text (exported_from (uncounted run.own run.holding) lines) ≡ sheet_text (exported_from run lines)
 rows_alike run lines = ap sheet_text (rows_same run.own run.holding 0 0 run.accepted run.refused lines)
 
 -- the lines of a book that is too long are not run
@@ -44,16 +44,24 @@ pub lines_next : (book : List ℕ) (i end : ℕ) → i < length book → end ≡
 lines_next book i end h e = sym (lines_at book i end h e)
 
 module _ (run : Run) where
-  pub rows_line : (line : List ℕ) (rest lines : List (List ℕ)) (own : List ℕ) (holding : Holding) → own ≡ table_after run.own run.holding line
+  pub rows_line : (line : List ℕ) (rest lines : List (List ℕ)) (after : Run) → after ≡ next run line → line ∷ rest ≡ lines
+      → sheet_text (exported_row run line) ++ sheet_text (exported_from after rest) ≡ sheet_text (exported_from run lines)
+  unfolding exported_from sheet_text
+  rows_line line rest lines after q e =
+      ap (λ (r : Run). sheet_text (exported_row run line) ++ sheet_text (exported_from r rest)) q
+      ∙ sym (texts-append row_text (exported_row run line) (exported_from (next run line) rest))
+      ∙ ap (λ (l : List (List ℕ)). sheet_text (exported_from run l)) e
+
+  -- the same by the table and the holding that the line leaves
+  pub rows_left : (line : List ℕ) (rest lines : List (List ℕ)) (own : List ℕ) (holding : Holding) → own ≡ table_after run.own run.holding line
       → holding ≡ placed run.holding (line_taken run.own run.holding line) → line ∷ rest ≡ lines
       → sheet_text (exported_row run line) ++ sheet_text (exported_from (uncounted own holding) rest) ≡ sheet_text (exported_from run lines)
-  unfolding exported_from sheet_text next
-  rows_line line rest lines own holding o h e =
+  unfolding next
+  rows_left line rest lines own holding o h e =
       ap (λ (l : List ℕ). sheet_text (exported_row run line) ++ sheet_text (exported_from (uncounted l holding) rest)) o
       ∙ ap (λ (x : Holding). sheet_text (exported_row run line) ++ sheet_text (exported_from (uncounted (next run line).own x) rest)) h
       ∙ ap (λ (t : List ℕ). sheet_text (exported_row run line) ++ t) (rows_alike (next run line) rest)
-      ∙ sym (texts-append row_text (exported_row run line) (exported_from (next run line) rest))
-      ∙ ap (λ (l : List (List ℕ)). sheet_text (exported_from run l)) e
+      ∙ rows_line line rest lines (next run line) refl e
 
   pub rows_none : (lines : List (List ℕ)) → lines ≡ [] → [] ≡ sheet_text (exported_from run lines)
   unfolding exported_from sheet_text texts

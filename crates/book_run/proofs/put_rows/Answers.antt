@@ -10,7 +10,7 @@ use Rattle.book_export.specs.{exported_from}
 use Rattle.book_listing.specs.{start}
 use Rattle.book_listing.proofs.Lines.{lines_none, lines_run_lem}
 use Rattle.book_run.proofs.Exports.{Went, went_refused, went_column, went_act}
-use Rattle.book_run.proofs.Rows.{uncounted, holding_of, rows_over, lines_next, rows_line, rows_none}
+use Rattle.book_run.proofs.Rows.{uncounted, holding_of, rows_over, lines_next, rows_left, rows_none}
 use Rattle.book_run.proofs.put_rows.Goals as goal
 use Rattle.book_run.proofs.put_rows.Goals.{in-Taken+in-Column, in-Taken+in-On, in_default}
 
@@ -80,7 +80,7 @@ loop-i-preserved c =
       place = omega (arith, put.place);
       puts = λ o p w.
           l.invariant.puts o p
-          (wrote_as (rows_line run line _ _ _ _ went.leaves.front went.stands (lines_next book l.i end c.loop-i-test.true c.end_of-end.ensures)) (wrote_then put w));
+          (wrote_as (rows_left run line _ _ _ _ went.leaves.front went.stands (lines_next book l.i end c.loop-i-test.true c.end_of-end.ensures)) (wrote_then put w));
     }
 
 pub returns : goal.returns
