@@ -1,6 +1,5 @@
 #!/usr/bin/env python3
-"""Reads in target/gate.log why each must-fail edit was refused that `rt ci` tried in that run; those that it kept from an earlier run of the same
-files have no line there, and its line `rt: ok` counts them all.
+"""Reads in target/gate.log why each must-fail edit was refused, in that run of `rt ci` or in an earlier one of the same files, which it says again.
 
 An edit is a wrong program, and is to be refused because a fact no longer holds. One that is bad, is not refused, or is refused only because a name is
 not there, says nothing of the program and fails this check. `tools/edits.py --all` prints the first error of each.
@@ -40,17 +39,20 @@ def main():
         print(f"{label}: it was not refused, or could not be tried")
     for label in kinds["name"]:
         print(f"{label}: it was refused only because a name is not there")
-    edits = len(list(ROOT.glob("crates/*/must-fail/*.edit")))
+    labels = {f"{edit.parent.parent.name}/{edit.stem}" for edit in ROOT.glob("crates/*/must-fail/*.edit")}
+    edits = len(labels)
+    unsaid = sorted(labels - {label for label, _ in TRIED.findall(text)})
+    for label in unsaid:
+        print(f"{label}: rt ci does not say why it was refused")
     ok = OK.search(text)
     every = ok is not None and int(ok[1]) == edits and ", bad" not in ok[2] and " bad" not in ok[2].split(";")[0]
     if not every:
         print(f"rt ci does not say that all {edits} must-fail edits are refused")
-    tried = sum(map(len, kinds.values()))
     print(
-        f"of {edits} must-fail edits {tried} were tried in this run: {len(kinds['fact'])} are refused at a fact, {len(kinds['range'])} at a number's range, "
+        f"of {edits} must-fail edits {len(kinds['fact'])} are refused at a fact, {len(kinds['range'])} at a number's range, "
         f"{len(kinds['limit'])} at a limit of the prover"
     )
-    sys.exit(0 if every and not kinds["bad"] and not kinds["name"] else 1)
+    sys.exit(0 if every and not unsaid and not kinds["bad"] and not kinds["name"] else 1)
 
 
 main()
