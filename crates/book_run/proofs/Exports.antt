@@ -1,105 +1,91 @@
--- A line's turn in an export, one law for each kind of line: what it leaves is what the fold leaves, and its row is put where it is exported.
-use Rattle.laws.proofs.{ℕ, ◌-◌, ◌≤◌, ◌≡◌, refl, sym, ap, subst, ◌∙◌, List, [], length, take}
-use native.Mathlib.Nat.{sub-zero}
+-- A line's turn in an export, one law for each kind of line: it is a turn (Turns) of some outcome, by which the areas stand and the row is put.
+use Rattle.laws.proofs.{ℕ, ◌-◌, ◌≤◌, ◌≡◌, refl, sym, ap, ◌∙◌, List, [], length, take}
 use Rattle.text.specs.{greatest, Wrote}
 use Rattle.text.proofs.Writes.{wrote_none, wrote_as}
 use Rattle.refusals.specs.{Refusal, Verdict}
-use Rattle.schedules.specs.{schedule6}
 use Rattle.table.specs.{longest_table}
 use Rattle.line_entry.specs.{AreaAct, Entry, Parsed}
-use Rattle.line.specs.{entry_of}
-use Rattle.holding.specs.{Holding}
+use Rattle.holding.specs.{Holding, numbers_in}
+use Rattle.holding_look.specs.{Looked}
 use Rattle.statement_format.specs.{texts}
-use Rattle.step_outcome.specs.{Outcome, answered, placed}
-use Rattle.step_outcome.proofs.Laws.{answered-verdict}
-use Rattle.step.specs.{applied}
+use Rattle.step_outcome.specs.{Outcome, turned_back, answered, placed}
+use Rattle.step.specs.{acted, applied}
 use Rattle.table_grow.specs.{growable}
 use Rattle.sheet_read.specs.{Row}
 use Rattle.sheet_write.specs.{sheet_text}
-use Rattle.book_listing.specs.{column_taken, parsed_taken, entry_taken, line_taken, parsed_table, if_accepted, table_after, Run}
-use Rattle.book_column.specs.{column_numbers, column_count, Fronts}
-use Rattle.book_column.proofs.Fronts.{stays, column_leaves}
-use Rattle.book_export.specs.{exported_for, exported_row}
-use Rattle.book_run.proofs.Rows.{uncounted}
+use Rattle.book_listing.specs.{column_taken}
+use Rattle.book_find.proofs.Naming.{looked_for, looked_up_lem}
+use Rattle.book_column.specs.{column_numbers, column_count}
+use Rattle.book_export.specs.{exported_for}
+use Rattle.book_run.specs.{Turn, refusal_in}
+use Rattle.book_run.proofs.Turns.{line_refused, line_column_lem, line_act}
 
--- the table, the holding and the buffer after a line's turn in a run
-pub record Went (run : Run) (line out : List ℕ) (at : ℕ) (table : List ℕ) (count : ℕ) (holding : Holding) (after : List ℕ) (place : ℕ) : Type 0 where
-  pub leaves : Fronts table count (table_after run.own run.holding line)
-  pub stands : holding ≡ placed run.holding (line_taken run.own run.holding line)
-  pub wrote : Wrote out at (sheet_text (exported_row run line)) after place
+pub record Went (own default : List ℕ) (looked : Looked) (line : List ℕ) (parsed : Parsed) (holding : Holding) (out : List ℕ) (at : ℕ) (table : List ℕ)
+    (count : ℕ) (then : Holding) (after : List ℕ) (place : ℕ) : Type 0 where
+  pub outcome : Outcome
+  pub turn : Turn own default looked line parsed outcome table count
+  pub stands : then ≡ placed holding outcome
+  pub wrote : Wrote out at (sheet_text (exported_for outcome.verdict parsed line)) after place
 
--- the same by what the line was read as
-record WentAs (run : Run) (line : List ℕ) (read : Parsed) (out : List ℕ) (at : ℕ) (table : List ℕ) (count : ℕ) (holding : Holding) (after : List ℕ)
-    (place : ℕ) : Type 0 where
-  leaves : Fronts table count (if_accepted (parsed_taken run.own run.holding line read).verdict (parsed_table run.own line read) run.own)
-  stands : holding ≡ placed run.holding (parsed_taken run.own run.holding line read)
-  wrote : Wrote out at (sheet_text (exported_for (parsed_taken run.own run.holding line read).verdict read line)) after place
-
-module _ (numbers : List ℕ) (count : ℕ) (fits : count ≤ longest_table) (long : length numbers ≡ longest_table) (holding : Holding) (line : List ℕ)
-    (parsed : Parsed) (p : parsed ≡ entry_of line) (out : List ℕ) (at : ℕ) (lent : length out ≤ greatest) (inside : at ≤ greatest) where
+module _ (numbers : List ℕ) (count : ℕ) (fits : count ≤ longest_table) (long : length numbers ≡ longest_table) (default : List ℕ) (holding : Holding)
+    (area_numbers : List ℕ) (line : List ℕ) (parsed : Parsed) (out : List ℕ) (at : ℕ) (lent : length out ≤ greatest) (inside : at ≤ greatest) where
   abbrev own : List ℕ
   own = take count numbers
 
-  abbrev run : Run
-  run = uncounted own holding
+  abbrev looked : Looked
+  looked = looked_for holding area_numbers parsed
 
-  went : (read : Parsed) → parsed ≡ read → (table : List ℕ) (left : ℕ) (then : Holding) (after : List ℕ) (place : ℕ)
-      → WentAs run line read out at table left then after place → Went run line out at table left then after place
-  unfolding exported_row table_after line_taken
-  went read e table left then after place w =
-      let turn = subst (λ (x : Parsed). WentAs run line x out at table left then after place) (sym e ∙ p) w in
-      record { leaves = turn.leaves; stands = turn.stands; wrote = turn.wrote }
+  abbrev WentTo : List ℕ → ℕ → Holding → List ℕ → ℕ → Type 0
+  WentTo table left then after place = Went own default looked line parsed holding out at table left then after place
 
   -- a row is put for no line but an act's
   none : (rows : List Row) → rows ≡ [] → Wrote out at (sheet_text rows) out at
   unfolding sheet_text texts
   none rows e = wrote_as (ap sheet_text (sym e)) (wrote_none out at lent inside)
 
-  pub went_refused : (refusal : Refusal) → parsed ≡ Parsed.Refused refusal → Went run line out at numbers count holding out at
-  unfolding parsed_taken placed
-  went_refused refusal e =
-      went _ e _ _ _ _ _
-      (record { leaves = stays numbers count fits long (Verdict.Refused refusal); stands = refl; wrote = none [] refl })
+  pub went_refused : (refusal : Refusal) → parsed ≡ Parsed.Refused refusal → WentTo numbers count holding out at
+  unfolding placed
+  went_refused refusal e = record {
+    outcome = turned_back refusal;
+    turn = line_refused numbers count fits long default looked line parsed _ refusal refusal e (sym (ap refusal_in e)) refl;
+    stands = refl;
+    wrote = none [] refl;
+  }
 
-  answered_none : (v : Verdict) (areas column : ℕ) → exported_for (answered v (column_taken areas)).verdict (Parsed.Taken (Entry.Column column)) line ≡ []
-  unfolding answered
-  answered_none Verdict.Accepted areas column = refl
-  answered_none (Verdict.Refused refusal) areas column = refl
+  no_row : (v : Verdict) (column : ℕ) → exported_for v (Parsed.Taken (Entry.Column column)) line ≡ []
+  no_row Verdict.Accepted column = refl
+  no_row (Verdict.Refused refusal) column = refl
 
-  answered_stays : (v : Verdict) (areas : ℕ) → holding ≡ placed holding (answered v (column_taken areas))
+  no_place : (v : Verdict) → holding ≡ placed holding (answered v (column_taken looked.count))
   unfolding answered placed
-  answered_stays Verdict.Accepted areas = refl
-  answered_stays (Verdict.Refused refusal) areas = refl
+  no_place Verdict.Accepted = refl
+  no_place (Verdict.Refused refusal) = refl
 
-  pub went_column : (entry : Entry) (column : ℕ) → parsed ≡ Parsed.Taken entry → entry ≡ Entry.Column column → (table : List ℕ) (left : ℕ)
-      → table ≡ column_numbers numbers count holding.count line → left ≡ column_count numbers count holding.count line
-      → Went run line out at table left holding out at
-  unfolding parsed_taken entry_taken
-  went_column entry column e k table left t l =
-      let v = growable own holding.count line in
-      let told = answered-verdict v (column_taken holding.count) refl in
-      went _ (e ∙ ap Parsed.Taken k) _ _ _ _ _
-      (record {
-        leaves = rw (told, t, l) (column_leaves numbers count fits long holding.count line);
-        stands = answered_stays v holding.count;
-        wrote = none _ (answered_none v holding.count column);
-      })
+  pub went_column : (entry : Entry) (column : ℕ) → parsed ≡ Parsed.Taken entry → entry ≡ Entry.Column column → (v : Verdict) (table : List ℕ) (left : ℕ)
+      → v ≡ growable own holding.count line → table ≡ column_numbers numbers count holding.count line → left ≡ column_count numbers count holding.count line
+      → WentTo table left holding out at
+  went_column entry column e k v table left g t l =
+      let outcome = answered v (column_taken looked.count) in
+      record {
+        outcome = outcome;
+        turn = line_column_lem numbers count fits long default looked line parsed _ entry column v table left e k refl g t l;
+        stands = no_place v;
+        wrote = none _ (ap (λ (x : Parsed). exported_for outcome.verdict x line) (e ∙ ap Parsed.Taken k) ∙ no_row _ column);
+      }
 
-  pub went_act : (entry : Entry) (on : AreaAct) → parsed ≡ Parsed.Taken entry → entry ≡ Entry.On on → (default : List ℕ) → default ≡ schedule6
-      → (verdict : Verdict) → verdict ≡ (applied (take (count - 0) numbers) default holding on).verdict
+  pub went_act : area_numbers ≡ numbers_in holding.areas → (entry : Entry) (on : AreaAct) → parsed ≡ Parsed.Taken entry → entry ≡ Entry.On on
+      → (v : Verdict) → v ≡ (applied (take (count - 0) numbers) default holding on).verdict
       → (then : Holding) → then ≡ placed holding (applied (take (count - 0) numbers) default holding on)
-      → (after : List ℕ) (place : ℕ) → Wrote out at (sheet_text (exported_for verdict (Parsed.Taken entry) line)) after place
-      → Went run line out at numbers count then after place
-  unfolding parsed_taken entry_taken
-  went_act entry on e k default d verdict v then h after place w =
-      let is : applied (take (count - 0) numbers) default holding on ≡ applied own schedule6 holding on =
-      ap (λ (n : ℕ). applied (take n numbers) default holding on) (sub-zero count)
-      ∙ ap (λ (l : List ℕ). applied own l holding on) d in
-      let row : Verdict → Entry → List ℕ = λ x y. sheet_text (exported_for x (Parsed.Taken y) line) in
-      let told = v ∙ ap (λ (x : Outcome). x.verdict) is in
-      went _ (e ∙ ap Parsed.Taken k) _ _ _ _ _
-      (record {
-        leaves = stays numbers count fits long (applied own schedule6 holding on).verdict;
-        stands = h ∙ ap (placed holding) is;
-        wrote = wrote_as (ap (λ (x : Verdict). row x entry) told ∙ ap (row _) k) w;
-      })
+      → (after : List ℕ) (place : ℕ) → Wrote out at (sheet_text (exported_for v (Parsed.Taken entry) line)) after place → WentTo numbers count then after place
+  unfolding applied
+  went_act n entry on e k v is then h after place w =
+      let named : looked_for holding area_numbers parsed ≡ looked_for holding area_numbers (Parsed.Taken (Entry.On on)) =
+      ap (looked_for holding area_numbers) (e ∙ ap Parsed.Taken k) in
+      let row : Verdict → Parsed → List ℕ = λ x read. sheet_text (exported_for x read line) in
+      let up = sym (named ∙ looked_up_lem holding area_numbers n on) in
+      record {
+        outcome = applied (take (count - 0) numbers) default holding on;
+        turn = line_act numbers count fits long default looked line parsed _ entry on e k (ap (λ (x : Looked). acted (take (count - 0) numbers) default x on.act) up);
+        stands = h;
+        wrote = wrote_as (ap (row v) (sym e) ∙ ap (λ (x : Verdict). row x parsed) is) w;
+      }

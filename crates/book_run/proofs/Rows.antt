@@ -6,8 +6,7 @@ use Rattle.statement_format.specs.{texts}
 use Rattle.statement_format.proofs.Texts.{texts-append}
 use Rattle.sheet_read.specs.{Row}
 use Rattle.sheet_write.specs.{row_text, sheet_text}
-use Rattle.step_outcome.specs.{placed}
-use Rattle.book_listing.specs.{Run, start, next, line_taken, table_after, lines_run, longest_book}
+use Rattle.book_listing.specs.{Run, start, next, lines_run, longest_book}
 use Rattle.book_listing.proofs.Lines.{lines_at}
 use Rattle.book_export.specs.{exported_row, exported_from}
 use Rattle.book_run.specs.{lines_from}
@@ -51,17 +50,6 @@ module _ (run : Run) where
       ap (λ (r : Run). sheet_text (exported_row run line) ++ sheet_text (exported_from r rest)) q
       ∙ sym (texts-append row_text (exported_row run line) (exported_from (next run line) rest))
       ∙ ap (λ (l : List (List ℕ)). sheet_text (exported_from run l)) e
-
-  -- the same by the table and the holding that the line leaves
-  pub rows_left : (line : List ℕ) (rest lines : List (List ℕ)) (own : List ℕ) (holding : Holding) → own ≡ table_after run.own run.holding line
-      → holding ≡ placed run.holding (line_taken run.own run.holding line) → line ∷ rest ≡ lines
-      → sheet_text (exported_row run line) ++ sheet_text (exported_from (uncounted own holding) rest) ≡ sheet_text (exported_from run lines)
-  unfolding next
-  rows_left line rest lines own holding o h e =
-      ap (λ (l : List ℕ). sheet_text (exported_row run line) ++ sheet_text (exported_from (uncounted l holding) rest)) o
-      ∙ ap (λ (x : Holding). sheet_text (exported_row run line) ++ sheet_text (exported_from (uncounted (next run line).own x) rest)) h
-      ∙ ap (λ (t : List ℕ). sheet_text (exported_row run line) ++ t) (rows_alike (next run line) rest)
-      ∙ rows_line line rest lines (next run line) refl e
 
   pub rows_none : (lines : List (List ℕ)) → lines ≡ [] → [] ≡ sheet_text (exported_from run lines)
   unfolding exported_from sheet_text texts

@@ -241,7 +241,7 @@ pub fn put_lines(
 }
 
 // Puts the row of each accepted S entry of a book, from `at` on, and none where the book is too long; the answer is the place after them. The areas stand
-// here alone and are handed on one at a time, since a holding is most of what the stack takes.
+// here alone and are lent to what takes an act, since a holding is most of what the stack takes.
 pub fn put_rows(book: &[u8], out: &mut [u8], at: usize) -> usize
     ensures { Wrote out.old at (sheet_text (exported_from start (lines_run book.now))) out.new result }
 {

@@ -7,10 +7,12 @@ use Rattle.holding.specs.{Holding, numbers_in}
 use Rattle.step_outcome.proofs.Laws.{placed-long}
 use Rattle.sheet_write.specs.{sheet_text}
 use Rattle.book_export.specs.{exported_from}
+use Rattle.book_find.proofs.Naming.{looked_for}
 use Rattle.book_listing.specs.{start}
 use Rattle.book_listing.proofs.Lines.{lines_none, lines_run_lem}
 use Rattle.book_run.proofs.Exports.{Went, went_refused, went_column, went_act}
-use Rattle.book_run.proofs.Rows.{uncounted, holding_of, rows_over, lines_next, rows_left, rows_none}
+use Rattle.book_run.proofs.Following.{turn_exports, turn_runs}
+use Rattle.book_run.proofs.Rows.{uncounted, holding_of, rows_alike, rows_over, lines_next, rows_line, rows_none}
 use Rattle.book_run.proofs.put_rows.Goals as goal
 use Rattle.book_run.proofs.put_rows.Goals.{in-Taken+in-Column, in-Taken+in-On, in_default}
 
@@ -48,39 +50,47 @@ loop-i-preserved c =
     let lent : length l.out ≤ greatest = omega (arith, l.invariant.long, bounded) in
     let read = c.parse-parsed.ensures in
     let six = c.schedule_six-default.ensures in
-    let came : Went run line l.out l.at m.table m.count (holding_of m.standing m.areas) m.out m.at × (m.numbers ≡ numbers_in m.areas) =
+    let looked = looked_for run.holding l.numbers c.parse-parsed.result in
+    let came : Went run.own c.schedule_six-default.result looked line c.parse-parsed.result run.holding l.out l.at m.table m.count
+    (holding_of m.standing m.areas) m.out m.at
+    × (m.numbers ≡ numbers_in m.areas) =
     elim m.branch [
       | in-Taken+in-Column w ↦
+          let t = w.take_column.ensures in
           rw (w.table-is, w.count-is, w.standing-is, w.areas-is, w.out-is, w.at-is, w.numbers-is) (
-            went_column l.table l.count l.invariant.fits l.invariant.table run.holding line _ read l.out l.at lent l.invariant.place _ _
-                w.in-Taken.is w.in-Column.is _ _ w.take_column.ensures.table_after w.take_column.ensures.count_after,
+            went_column l.table l.count l.invariant.fits l.invariant.table _ run.holding l.numbers line _ l.out l.at lent l.invariant.place _ _
+                w.in-Taken.is w.in-Column.is _ _ _ t.value t.table_after t.count_after,
             l.invariant.numbers,
           )
       | in-Taken+in-On w ↦
           let act = w.take_act-verdict.ensures in
           rw (w.table-is, w.count-is, w.standing-is, w.areas-is, w.out-is, w.at-is, w.numbers-is) (
-            went_act l.table l.count l.invariant.fits l.invariant.table run.holding line _ read l.out l.at lent l.invariant.place _ _
-                w.in-Taken.is w.in-On.is _ six _ act.value _ act.areas_after w.put_row-at.new.out w.put_row-at.result w.put_row-at.ensures,
+            went_act l.table l.count l.invariant.fits l.invariant.table _ run.holding l.numbers line _ l.out l.at lent l.invariant.place
+                l.invariant.numbers _ _ w.in-Taken.is w.in-On.is _ act.value _ act.areas_after w.put_row-at.new.out w.put_row-at.result w.put_row-at.ensures,
             act.numbers_after,
           )
       | in_default w ↦
           rw (w.table-is, w.count-is, w.standing-is, w.areas-is, w.out-is, w.at-is, w.numbers-is) (
-            went_refused l.table l.count l.invariant.fits l.invariant.table run.holding line _ read l.out l.at lent l.invariant.place _ w.in_default.is,
+            went_refused l.table l.count l.invariant.fits l.invariant.table _ run.holding l.numbers line _ l.out l.at lent l.invariant.place _ w.in_default.is,
             l.invariant.numbers,
           )
     ] in
     let went = came.0 in
-    let put = went.wrote in
+    let leaves = went.turn.leaves in
+    let ran =
+    turn_runs run l.numbers l.invariant.numbers line _ _ _ _ _ went.outcome went.turn.comes read refl refl refl six _ _ leaves _ _ _ _ went.stands refl refl refl in
+    let puts = turn_exports run l.numbers l.invariant.numbers line _ _ _ _ _ went.outcome went.turn.comes read refl refl refl six in
     record {
       many = ap (λ (h : Holding). length h.areas) went.stands ∙ placed-long _ _ ∙ l.invariant.many;
       numbers = came.1;
-      table = went.leaves.whole;
-      fits = went.leaves.fits;
-      long = wrote-length put ∙ l.invariant.long;
-      place = omega (arith, put.place);
+      table = leaves.whole;
+      fits = leaves.fits;
+      long = wrote-length went.wrote ∙ l.invariant.long;
+      place = omega (arith, went.wrote.place);
       puts = λ o p w.
           l.invariant.puts o p
-          (wrote_as (rows_left run line _ _ _ _ went.leaves.front went.stands (lines_next book l.i end c.loop-i-test.true c.end_of-end.ensures)) (wrote_then put w));
+          (wrote_as (rows_line run line _ _ _ ran (lines_next book l.i end c.loop-i-test.true c.end_of-end.ensures))
+          (wrote_then (wrote_as (ap sheet_text puts) went.wrote) (wrote_as (rows_alike _ _) w)));
     }
 
 pub returns : goal.returns
