@@ -6,7 +6,7 @@ A sentence of the promises is quoted on a line of its own, `> sentence`, and has
 `- **refused edits**: ..` and `- **tests**: ..`, a dash where there is none. A word of the glossary is a line, `- **word**: ..`.
 
   `name` (crate/specs/File)   a definition of that file, `name` (crate/proofs/File) a theorem; a folder may stand for its files
-  `crate::name`               a function, struct, enum or constant of the crate's code; `Type::name` a method
+  `crate::name`               a function, struct, enum, type or constant of the crate's code; `Type::name` a method
   `file.rs::name`             a test of host/rust, `file.c::name` a function of host/
   `crate/label`               among the refused edits: crates/crate/must-fail/label.edit
   `folder/file`               any other file of the repository
@@ -48,8 +48,8 @@ def check_code(owner, name):
     """A name of a crate's code, or a method of a type."""
     files = sorted(CRATES.glob(f"{owner}/src/*.rt"))
     if not owner.islower():
-        files = [file for file in CRATES.glob("*/src/*.rt") if f"impl {owner} " in file.read_text()]
-    if not re.search(rf"\b(?:fn|struct|enum|const) {re.escape(name)}\b", read_all(files, f"code of {owner}")):
+        files = [file for file in CRATES.glob("*/src/*.rt") if re.search(rf"impl {owner}[ <]", file.read_text())]
+    if not re.search(rf"\b(?:fn|struct|enum|const|type) {re.escape(name)}\b", read_all(files, f"code of {owner}")):
         raise LookupError(f"no {owner}::{name}")
 
 

@@ -19,6 +19,7 @@ fn room_for_part() -> [u8; PART_ROOM] {
 fn print_listing(rt: &impl Print, book: &[u8]) -> io::Result<()> {
     let mut out = room_for_part();
     let mut part = book_parts::put_part(book, 0, book_reached::nothing_reached(), &mut out);
+    // A part says where the next one starts: its place is kept, and an iterator would only hide it.
     while part.next < book.len() {
         rt.write_all(&out[..part.count])?;
         part = book_parts::put_part(book, part.next, part.reached, &mut out);

@@ -1,4 +1,5 @@
 -- A T line leaves a table in front of the array: the longer one where it is accepted, and else the one before.
+use Rattle.std.specs.Prelude.{Ok, Err}
 use Rattle.laws.proofs.{ℕ, ◌≤◌, ◌≡◌, refl, List, arith, length, take, drop, length-append, length-drop, take-append_seam}
 use Rattle.refusals.specs.{Verdict, buffer_after}
 use Rattle.table.specs.{longest_table}
@@ -13,8 +14,8 @@ module _ (numbers : List ℕ) (count : ℕ) (fits : count ≤ longest_table) (lo
 
   -- the table stays, whatever the verdict
   pub stays : (v : Verdict) → Fronts numbers count (if_accepted v own own)
-  stays Verdict.Accepted = record { front = refl; fits = fits; whole = long }
-  stays (Verdict.Refused r) = record { front = refl; fits = fits; whole = long }
+  stays (Ok _) = record { front = refl; fits = fits; whole = long }
+  stays (Err r) = record { front = refl; fits = fits; whole = long }
 
   module _ (areas : ℕ) (line : List ℕ) where
     abbrev longer : List ℕ
@@ -23,14 +24,14 @@ module _ (numbers : List ℕ) (count : ℕ) (fits : count ≤ longest_table) (lo
     by_verdict : (v : Verdict) → growable own areas line ≡ v
         → Fronts (buffer_after v longer numbers) (if_accepted v (length longer) count) (if_accepted v longer own)
     unfolding buffer_after
-    by_verdict Verdict.Accepted clear =
+    by_verdict (Ok _) clear =
         let room = longer-fits own areas line clear in
         record {
           front = take-append_seam longer (drop (length longer) numbers);
           fits = room;
           whole = omega (arith, length-append longer (drop (length longer) numbers), length-drop {A = ℕ} (length longer) numbers, long, room);
         }
-    by_verdict (Verdict.Refused r) e = stays (Verdict.Refused r)
+    by_verdict (Err r) e = stays (Err r)
 
     pub column_leaves : Fronts (column_numbers numbers count areas line) (column_count numbers count areas line) (if_accepted (growable own areas line) longer own)
     unfolding column_numbers column_count

@@ -5,7 +5,7 @@ ghost use Rattle.std.specs.Prelude.{◌≡◌, take};
 ghost use Rattle.table_grow.specs.{growable};
 ghost use Rattle.book_column.specs.{column_numbers, column_count};
 
-use refusals::{Verdict, Written};
+use refusals::Verdict;
 use table::LONGEST_TABLE;
 
 // Takes a line as a T line, where so many areas stand: it extends the table in place, or says why it leaves it.
@@ -19,12 +19,6 @@ pub fn take_column(
     ensures table_after { table.new ≡ column_numbers table.old count.old areas line.now }
     ensures count_after { count.new ≡ column_count table.old count.old areas line.now }
 {
-    let answer = table_grow::grow(table, *count, areas, line);
-    match answer {
-        Written::Refused(refusal) => Verdict::Refused(refusal),
-        Written::Count(longer) => {
-            *count = longer;
-            Verdict::Accepted
-        }
-    }
+    *count = table_grow::grow(table, *count, areas, line)?;
+    Ok(())
 }

@@ -1,4 +1,5 @@
 -- The row of a line, by whether it is exported: an accepted line counts as one, and a row by itself is the sheet's text of it.
+use Rattle.std.specs.Prelude.{Ok, Err}
 use Rattle.laws.proofs.{ℕ, ◌≡◌, refl, sym, ap, ◌∙◌, Bool, true, false, cond, ◌&&◌, List, [], ◌∷◌, append-nil, eqb}
 use Rattle.refusals.specs.{Verdict}
 use Rattle.line_entry.specs.{Parsed}
@@ -9,10 +10,10 @@ use Rattle.book_listing.specs.{if_accepted}
 use Rattle.book_export.specs.{is_addition, is_exported, exported_for}
 
 one_counted : (v : Verdict) (added : Bool) → (added && eqb (if_accepted v 1 0) 1) ≡ if_accepted v added false
-one_counted Verdict.Accepted true = refl
-one_counted Verdict.Accepted false = refl
-one_counted (Verdict.Refused r) true = refl
-one_counted (Verdict.Refused r) false = refl
+one_counted (Ok _) true = refl
+one_counted (Ok _) false = refl
+one_counted (Err r) true = refl
+one_counted (Err r) false = refl
 
 module _ (verdict : Verdict) (parsed : Parsed) where
   pub tested : (added : Bool) → added ≡ is_addition parsed → (counted : ℕ) → counted ≡ if_accepted verdict 1 0 → (added && eqb counted 1) ≡ is_exported verdict parsed

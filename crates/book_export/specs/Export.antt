@@ -1,5 +1,5 @@
 -- "Export the accepted S entries of a book to that format, hectares as entered, each field quoted, rows ended by CR LF."
-use Rattle.std.specs.Prelude.{◌∷◌, ◌++◌}
+use Rattle.std.specs.Prelude.{◌∷◌, ◌++◌, Ok, Err}
 use Rattle.laws.specs.{ℕ, Bool, true, false, cond, List, [], ltb, length}
 use Rattle.refusals.specs.{Refusal, Verdict, ◌⇒◌, smallest}
 use Rattle.line_entry.specs.{Act, Entry, Parsed}
@@ -20,9 +20,9 @@ adds Act.Withdraw = false
 
 -- whether a line is read as an S entry
 abbrev pub is_addition : Parsed → Bool
-is_addition (Parsed.Taken (Entry.On on)) = adds on.act
-is_addition (Parsed.Taken (Entry.Column column)) = false
-is_addition (Parsed.Refused refusal) = false
+is_addition (Ok (Entry.On on)) = adds on.act
+is_addition (Ok (Entry.Column column)) = false
+is_addition (Err refusal) = false
 
 -- whether a line is an accepted S entry, by its verdict and as it was read
 abbrev pub is_exported : Verdict → Parsed → Bool

@@ -11,38 +11,16 @@ use refusals::Verdict;
 fn adds(act: Act) -> bool
     ensures { result ≡ adds act }
 {
-    match act {
-        Act::Add {
-            sub: _,
-            land: _,
-            forest: _,
-            planted: _,
-        } => true,
-        Act::Open { opening: _ } => false,
-        Act::Clear { sub: _, year: _ } => false,
-        Act::Plant {
-            sub: _,
-            forest: _,
-            year: _,
-        } => false,
-        Act::File { last: _ } => false,
-        Act::Withdraw => false,
-    }
+    matches!(act, Act::Add { .. })
 }
 
 // Whether a line was read as an S entry.
 fn is_addition(parsed: Parsed) -> bool
     ensures { result ≡ is_addition parsed }
 {
-    let Parsed::Taken(entry) = parsed else {
-        return false;
-    };
-    match entry {
-        Entry::Column { column: _ } => false,
-        Entry::On(on) => {
-            let act = on.act;
-            adds(act)
-        }
+    match parsed {
+        Ok(Entry::On(on)) => adds(on.act),
+        _ => false,
     }
 }
 
@@ -50,5 +28,5 @@ fn is_addition(parsed: Parsed) -> bool
 pub fn is_exported(parsed: Parsed, verdict: Verdict) -> bool
     ensures { result ≡ is_exported verdict parsed }
 {
-    is_addition(parsed) & (book_listing::counted(verdict) == 1)
+    is_addition(parsed) & verdict.is_ok()
 }

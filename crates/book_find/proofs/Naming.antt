@@ -1,9 +1,10 @@
 -- Where the numbers are those of the areas, the place of a number among those that stand is the place of the area that bears it. So the area that a loop takes
 -- out of its own holding for a line is the area looked up for it.
+use Rattle.std.specs.Prelude.{Ok, Option}
 use Rattle.laws.proofs.{ℕ, ◌≡◌, sym, ap, ◌∙◌, List, take}
 use Rattle.laws.proofs.Standing.{take-map}
 use Rattle.line_entry.specs.{AreaAct, Entry, Parsed}
-use Rattle.holding.specs.{Area, Holding, Found, areas_of, numbers_in, find_area}
+use Rattle.holding.specs.{Area, Holding, areas_of, numbers_in, find_area}
 use Rattle.holding.proofs.Stands.{place_of-numbers}
 use Rattle.holding_look.specs.{Looked, area_at, looked_at, looked_up}
 use Rattle.holding_look.proofs.Laws.{looked_as}
@@ -22,10 +23,10 @@ module _ (holding : Holding) (numbers : List ℕ) where
   abbrev pub looked_for : Parsed → Looked
   looked_for parsed = let names = named_by (take holding.count numbers) parsed in looked_at holding names.number names.found
 
-  pub looked_for_lem : (parsed : Parsed) (names : Named) (found : Found) (area : Area) → names ≡ named_by (take holding.count numbers) parsed → found ≡ names.found
+  pub looked_for_lem : (parsed : Parsed) (names : Named) (found : Option ℕ) (area : Area) → names ≡ named_by (take holding.count numbers) parsed → found ≡ names.found
       → area ≡ area_at holding found → record { number = names.number; count = holding.count; found = found; area = area } ≡ looked_for parsed
   looked_for_lem parsed names found area n f a =
       looked_as holding names.number found names.found area f a ∙ ap (λ (x : Named). looked_at holding x.number x.found) n
 
-  pub looked_up_lem : numbers ≡ numbers_in holding.areas → (on : AreaAct) → looked_for (Parsed.Taken (Entry.On on)) ≡ looked_up holding on.area
+  pub looked_up_lem : numbers ≡ numbers_in holding.areas → (on : AreaAct) → looked_for (Ok (Entry.On on)) ≡ looked_up holding on.area
   looked_up_lem e on = ap (looked_at holding on.area) (place_in-holding holding numbers on.area e)

@@ -4,14 +4,13 @@
 ghost use Rattle.std.specs.Prelude.{◌≡◌, take};
 ghost use Rattle.book_find.specs.{place_in, nothing_named, named_by};
 
-use holding::Found;
 use line_entry::{Entry, Parsed};
 
 // The number of the area that a line names, 0 where it names none, and its place.
 #[derive(Clone, Copy)]
 pub struct Named {
     pub number: u16,
-    pub found: Found,
+    pub found: Option<usize>,
 }
 
 fn nothing_named() -> Named
@@ -19,25 +18,16 @@ fn nothing_named() -> Named
 {
     Named {
         number: 0,
-        found: Found::Nowhere,
+        found: None,
     }
 }
 
 // The place of a number among the first `count` of the numbers.
-fn place_in(numbers: &[u16], count: usize, number: u16) -> Found
+#[tactic(auto, unfolding(holding::specs::Areas::place_from))]
+fn place_in(numbers: &[u16], count: usize, number: u16) -> Option<usize>
     ensures { result ≡ place_in (take count numbers.now) number }
 {
-    let mut i: usize = 0;
-    while i < numbers.len() {
-        if count <= i {
-            return Found::Nowhere;
-        }
-        if numbers[i] == number {
-            return Found::At(i);
-        }
-        i += 1;
-    }
-    Found::Nowhere
+    numbers.iter().take(count).position(|one| *one == number)
 }
 
 // The area that a line names, as it was read, by the numbers of the areas, of which the first `count` stand: for a line that is no entry they are not
@@ -45,14 +35,11 @@ fn place_in(numbers: &[u16], count: usize, number: u16) -> Found
 pub fn find(numbers: &[u16], count: usize, parsed: Parsed) -> Named
     ensures { result ≡ named_by (take count numbers.now) parsed }
 {
-    let Parsed::Taken(entry) = parsed else {
-        return nothing_named();
-    };
-    match entry {
-        Entry::Column { column: _ } => nothing_named(),
-        Entry::On(on) => Named {
+    match parsed {
+        Ok(Entry::On(on)) => Named {
             number: on.area,
             found: place_in(numbers, count, on.area),
         },
+        _ => nothing_named(),
     }
 }

@@ -27,17 +27,9 @@ carried_footed holding e =
 abbrev pub most_total : ℕ
 most_total = most_units * most_areas
 
--- ---- the test, by how many areas stand
+-- ---- where all are carried
 
 module _ (holding : Holding) where
-  pub too_many : most_areas < holding.count → false ≡ all_carried holding
-  unfolding all_carried all_of
-  too_many h = simp (lt-leb holding.count most_areas h)
-
-  pub all_judged : (carried : Bool) → holding.count ≤ most_areas → carried ≡ every fields_carried (areas_of holding) → carried ≡ all_carried holding
-  unfolding all_carried all_of
-  all_judged carried h e = simp (le-leb holding.count most_areas h) e
-
   module _ (e : all_carried holding ≡ true) where
     pub few_stand : holding.count ≤ most_areas
     unfolding all_carried AllTrue
@@ -47,10 +39,8 @@ module _ (holding : Holding) where
     unfolding all_carried AllTrue
     each_carried = every_each fields_carried (areas_of holding) (all_true _ e).1.0
 
-    pub paid_at : (i : ℕ) (d : Area) → i < holding.count → i < length holding.areas → (get_or holding.areas i d).surrendered ≤ (get_or holding.areas i d).received
-    paid_at i d h k =
-        let here = each_at _ (areas_of holding) i d (omega (arith, length-take holding.count holding.areas)) each_carried in
-        (bounds _ (ap fields_carried (sym (get_or-take holding.count holding.areas i d h)) ∙ here)).surrendered
+    pub paid_at : (i : ℕ) (d : Area) → i < length (areas_of holding) → (get_or (areas_of holding) i d).surrendered ≤ (get_or (areas_of holding) i d).received
+    paid_at i d h = (bounds _ (each_at _ (areas_of holding) i d h each_carried)).surrendered
 
     few-areas : length (areas_of holding) ≤ most_areas
     few-areas = omega (arith, length-take holding.count holding.areas, few_stand)

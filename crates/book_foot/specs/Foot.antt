@@ -1,5 +1,5 @@
 -- The foot of a listing: "Before the E line, `book` prints F, then units received, units surrendered and balance over all areas, withdrawn ones included."
-use Rattle.std.specs.Prelude.{◌+◌, ◌*◌, ◌∷◌}
+use Rattle.std.specs.Prelude.{◌+◌, ◌*◌, ◌∷◌, Ok, Err}
 use Rattle.laws.specs.{ℕ, Bool, not, List, [], leb, every, all_of}
 use Rattle.refusals.specs.{Refusal, Verdict, ◌⇒◌, smallest}
 use Rattle.holding.specs.{Holding, most_areas, areas_of}
@@ -21,8 +21,8 @@ summable holding = smallest (not (all_carried holding) ⇒ Refusal.CarriedStatem
 
 -- F and the units; X,0,11 of a holding that is handed over with other fields
 abbrev pub foot_by : Verdict → Holding → List ℕ
-foot_by Verdict.Accepted holding = units_text (units_of holding)
-foot_by (Verdict.Refused refusal) holding = refusal_text 0 refusal
+foot_by (Ok _) holding = units_text (units_of holding)
+foot_by (Err refusal) holding = refusal_text 0 refusal
 
 unfoldable pub foot_of : Holding → List ℕ
 foot_of holding = foot_by (summable holding) holding

@@ -15,17 +15,11 @@ use refusals::Refusal;
 fn all_carried(holding: Holding) -> bool
     ensures { result ≡ all_carried holding }
 {
-    if MOST_AREAS < holding.count {
-        return false;
-    }
-    let mut carried = true;
-    let mut i: usize = 0;
-    while i < holding.count {
-        let area = holding.areas[i];
-        carried = carried & statement_carried::fields(area);
-        i += 1;
-    }
-    carried
+    let carried = holding
+        .standing()
+        .iter()
+        .all(|area| statement_carried::fields(*area));
+    (holding.count <= MOST_AREAS) & carried
 }
 
 fn sum_up(holding: Holding) -> Units
@@ -35,13 +29,10 @@ fn sum_up(holding: Holding) -> Units
     let mut received: u64 = 0;
     let mut surrendered: u64 = 0;
     let mut balance: u64 = 0;
-    let mut i: usize = 0;
-    while i < holding.count {
-        let area = holding.areas[i];
+    for area in holding.standing() {
         received += area.received;
         surrendered += area.surrendered;
         balance += area.received - area.surrendered;
-        i += 1;
     }
     Units {
         received,

@@ -34,13 +34,13 @@ pub fn list(book: &[u8], out: &mut [u8]) -> Written
 {
     if ROOM <= out.len() {
         let count = book_parts::put_listing(book, out);
-        return Written::Count(count);
+        return Ok(count);
     }
     let mut unkept = [0u8; 1];
     let need = book_parts::put_listing(book, &mut unkept);
     if out.len() < need {
-        return Written::Refused(Refusal::OutputShort);
+        return Err(Refusal::OutputShort);
     }
     let count = book_parts::put_listing(book, out);
-    Written::Count(count)
+    Ok(count)
 }

@@ -1,4 +1,5 @@
 -- One turn of the fold: a line prints its own, one more is accepted or refused, and the lines behind it follow.
+use Rattle.std.specs.Prelude.{Ok, Err}
 use Rattle.laws.proofs.{ℕ, suc, ◌+◌, ◌-◌, ◌≤◌, ◌<◌, ◌≡◌, refl, sym, ap, ◌∙◌, List, [], ◌∷◌, ◌++◌, append_assoc, arith, length, take, drop, lt-ltb, le-ltb}
 use Rattle.text.specs.{line_end, width_to}
 use Rattle.refusals.specs.{Verdict}
@@ -10,8 +11,8 @@ unfolding start
 start_none = refl
 
 one_counted : (v : Verdict) (a r : ℕ) → if_accepted v (a + 1) a + if_accepted v r (r + 1) ≡ a + r + 1
-one_counted Verdict.Accepted a r = omega arith
-one_counted (Verdict.Refused refusal) a r = omega arith
+one_counted (Ok _) a r = omega arith
+one_counted (Err refusal) a r = omega arith
 
 -- a line is accepted or refused
 pub next_counts : (run : Run) (line : List ℕ) → (next run line).accepted + (next run line).refused ≡ run.accepted + run.refused + 1

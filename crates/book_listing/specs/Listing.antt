@@ -1,11 +1,11 @@
 -- The listing of a book: a fold of one step over its lines.
-use Rattle.std.specs.Prelude.{◌+◌, ◌∷◌, ◌++◌}
+use Rattle.std.specs.Prelude.{◌+◌, ◌∷◌, ◌++◌, Ok, Err, None}
 use Rattle.laws.specs.{ℕ, cond, List, [], ltb, length}
 use Rattle.refusals.specs.{Verdict, Refusal}
 use Rattle.schedules.specs.{schedule6}
 use Rattle.line_entry.specs.{Entry, Parsed}
 use Rattle.line.specs.{entry_of}
-use Rattle.holding.specs.{Holding, empty_area, empty_holding, Found}
+use Rattle.holding.specs.{Holding, empty_area, empty_holding}
 use Rattle.step_outcome.specs.{Outcome, turned_back, accepted, answered, placed, Report}
 use Rattle.step.specs.{applied}
 use Rattle.table_grow.specs.{growable, longer_by}
@@ -15,7 +15,7 @@ use Rattle.book_listing.specs.Lines.{lines_of}
 
 -- what an accepted T line comes to, where so many areas stand: "T .. extends the table", and the holding stays
 abbrev pub column_taken : ℕ → Outcome
-column_taken areas = accepted Report.Nothing Found.Nowhere areas empty_area
+column_taken areas = accepted Report.Nothing None areas empty_area
 
 -- what an entry of a line comes to, on a holding and a table
 unfoldable pub entry_taken : List ℕ → Holding → List ℕ → Entry → Outcome
@@ -24,8 +24,8 @@ entry_taken own holding line (Entry.On on) = applied own schedule6 holding on
 
 -- "A line that cannot be read as an entry is refused before the holding is looked at."
 unfoldable pub parsed_taken : List ℕ → Holding → List ℕ → Parsed → Outcome
-parsed_taken own holding line (Parsed.Taken entry) = entry_taken own holding line entry
-parsed_taken own holding line (Parsed.Refused refusal) = turned_back refusal
+parsed_taken own holding line (Ok entry) = entry_taken own holding line entry
+parsed_taken own holding line (Err refusal) = turned_back refusal
 
 unfoldable pub line_taken : List ℕ → Holding → List ℕ → Outcome
 line_taken own holding line = parsed_taken own holding line (entry_of line)
@@ -36,12 +36,12 @@ entry_table own line (Entry.Column column) = longer_by own line
 entry_table own line (Entry.On on) = own
 
 abbrev pub parsed_table : List ℕ → List ℕ → Parsed → List ℕ
-parsed_table own line (Parsed.Taken entry) = entry_table own line entry
-parsed_table own line (Parsed.Refused refusal) = own
+parsed_table own line (Ok entry) = entry_table own line entry
+parsed_table own line (Err refusal) = own
 
 abbrev pub if_accepted : {A : Type 0} → Verdict → A → A → A
-if_accepted Verdict.Accepted new old = new
-if_accepted (Verdict.Refused refusal) new old = old
+if_accepted (Ok _) new old = new
+if_accepted (Err refusal) new old = old
 
 -- the table after a line: longer where a T line is accepted
 unfoldable pub table_after : List ℕ → Holding → List ℕ → List ℕ
@@ -69,8 +69,8 @@ next run line =
 
 -- what is printed for a line, by its number in the book and its outcome
 unfoldable pub printed_for : ℕ → Verdict → Outcome → List ℕ
-printed_for number Verdict.Accepted outcome = report_text outcome.report
-printed_for number (Verdict.Refused refusal) outcome = refusal_text number refusal
+printed_for number (Ok _) outcome = report_text outcome.report
+printed_for number (Err refusal) outcome = refusal_text number refusal
 
 unfoldable pub printed : Run → List ℕ → List ℕ
 printed run line =

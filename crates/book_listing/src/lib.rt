@@ -19,8 +19,8 @@ pub fn put_line(out: &mut [u8], at: usize, number: u64, outcome: Outcome) -> usi
     let verdict = outcome.verdict;
     let report = outcome.report;
     match verdict {
-        Verdict::Accepted => book_print::put_report(out, at, report),
-        Verdict::Refused(refusal) => book_print::put_refusal(out, at, number, refusal),
+        Ok(()) => book_print::put_report(out, at, report),
+        Err(refusal) => book_print::put_refusal(out, at, number, refusal),
     }
 }
 
@@ -29,7 +29,7 @@ pub fn counted(verdict: Verdict) -> u64
     ensures { (result ≡ if_accepted verdict 1 0) × (result ≤ 1) }
 {
     match verdict {
-        Verdict::Accepted => 1,
-        Verdict::Refused(_) => 0,
+        Ok(()) => 1,
+        Err(_) => 0,
     }
 }

@@ -93,7 +93,7 @@ fn put_pair(out: &mut [u8], at: usize, letter: u8, a: u64, b: u64) -> usize
 pub fn put_refusal(out: &mut [u8], at: usize, line: u64, refusal: Refusal) -> usize
     ensures { Put refusal_width out.old at (refusal_text line refusal) out.new result }
 {
-    let number = refusals::number(refusal);
+    let number = u8::from(refusal);
     put_pair(out, at, b'X', line, number as u64)
 }
 

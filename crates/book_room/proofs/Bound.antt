@@ -1,5 +1,6 @@
 -- A listing has at most 11 bytes for each byte of its book and one more, 44 for the foot and 14 for E: a line prints at most 11 bytes for each of its own and its end,
 -- since a refusal takes no more than 11 and the lines that print more are as much longer themselves.
+use Rattle.std.specs.Prelude.{Ok, Err}
 use Rattle.laws.proofs.{ℕ, ◌+◌, ◌*◌, ◌≤◌, ◌<◌, ap, List, [], ◌∷◌, ⊎_elim, arith, length, length-append}
 use Rattle.laws.specs.{sum_by}
 use Rattle.laws.proofs.Order.{below_or_not}
@@ -18,8 +19,8 @@ use Rattle.book_room.proofs.Runs.{line_length, RunKept, start-kept, next-kept}
 printed_for_lem : (number m : ℕ) (v : Verdict) (outcome : Outcome) → number < 100000 → most_for_byte ≤ m → length (report_text outcome.report) ≤ m
     → length (printed_for number v outcome) ≤ m
 unfolding printed_for
-printed_for_lem number m Verdict.Accepted outcome n h l = l
-printed_for_lem number m (Verdict.Refused r) outcome n h l = omega (arith, refusal-few 4 number r n)
+printed_for_lem number m (Ok _) outcome n h l = l
+printed_for_lem number m (Err r) outcome n h l = omega (arith, refusal-few 4 number r n)
 
 printed-length : (run : Run) (line : List ℕ) → RunKept run → run.accepted + run.refused + 1 < 100000 → length (printed run line) ≤ most_for_byte * weight line
 unfolding printed

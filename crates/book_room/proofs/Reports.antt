@@ -1,5 +1,6 @@
 -- What a step reports is short: an area that is kept has a return for each of its years at most, each within its limit of tonnes received, and a
 -- return's change is at most `most_change`.
+use Rattle.std.specs.Prelude.{Ok, Err}
 use Rattle.laws.proofs.{ℕ, ◌+◌, ◌-◌, ◌*◌, ◌≤◌, true, ◌≡◌, refl, List, arith, not-false, length}
 use Rattle.book_room.specs.{return_width, withdrawal_width}
 use Rattle.refusals.specs.{Verdict}
@@ -37,11 +38,11 @@ due_within (Change.Gain t) balance = omega arith
 due_within (Change.Loss t) balance = omega arith
 
 -- a refusal reports nothing
-answer_length : (m : ℕ) (v : Verdict) (outcome : Outcome) → (v ≡ Verdict.Accepted → length (report_text outcome.report) ≤ m)
+answer_length : (m : ℕ) (v : Verdict) (outcome : Outcome) → (v ≡ Ok tt → length (report_text outcome.report) ≤ m)
     → length (report_text (answered v outcome).report) ≤ m
 unfolding answered report_text
-answer_length m (Verdict.Refused r) outcome f = omega arith
-answer_length m Verdict.Accepted outcome f = f refl
+answer_length m (Err r) outcome f = omega arith
+answer_length m (Ok _) outcome f = f refl
 
 module _ (area : Area) (k : AreaKept area) where
   received_at_most : area.received ≤ received_for_return * (last_year + 1 - first_year)

@@ -1,4 +1,5 @@
 -- Every line leaves a table and a holding that a statement carries: an entry by the laws of its letter, T by the longer table, and a refused line nothing.
+use Rattle.std.specs.Prelude.{Ok, Err}
 use Rattle.laws.proofs.{ℕ, ◌*◌, ◌+◌, ◌≤◌, true, ◌≡◌, refl, sym, subst, List, [], ◌∷◌, arith, length}
 use Rattle.book_room.specs.{most_for_byte}
 use Rattle.refusals.specs.{Verdict}
@@ -29,8 +30,8 @@ module _ (own : List ℕ) (table : is_table own ≡ true) (holding : Holding) (k
 
   column_leaves : (v : Verdict) → placed holding (answered v (column_taken holding.count)) ≡ holding
   unfolding answered placed
-  column_leaves Verdict.Accepted = refl
-  column_leaves (Verdict.Refused r) = refl
+  column_leaves (Ok _) = refl
+  column_leaves (Err r) = refl
 
   entry_keeps : (entry : Entry) → Kept (placed holding (entry_taken own holding line entry))
   unfolding entry_taken
@@ -39,33 +40,33 @@ module _ (own : List ℕ) (table : is_table own ≡ true) (holding : Holding) (k
 
   parsed_keeps : (p : Parsed) → Kept (placed holding (parsed_taken own holding line p))
   unfolding parsed_taken placed
-  parsed_keeps (Parsed.Taken entry) = entry_keeps entry
-  parsed_keeps (Parsed.Refused r) = kept
+  parsed_keeps (Ok entry) = entry_keeps entry
+  parsed_keeps (Err r) = kept
 
   pub line_keeps : Kept (placed holding (line_taken own holding line))
   unfolding line_taken
   line_keeps = parsed_keeps (entry_of line)
 
   -- the table after a line whose verdict it is
-  table_or : (v : Verdict) (new : List ℕ) → (v ≡ Verdict.Accepted → is_table new ≡ true) → is_table (if_accepted v new own) ≡ true
-  table_or Verdict.Accepted new f = f refl
-  table_or (Verdict.Refused r) new f = table
+  table_or : (v : Verdict) (new : List ℕ) → (v ≡ Ok tt → is_table new ≡ true) → is_table (if_accepted v new own) ≡ true
+  table_or (Ok _) new f = f refl
+  table_or (Err r) new f = table
 
-  entry_table_lem : (entry : Entry) → (entry_taken own holding line entry).verdict ≡ Verdict.Accepted → is_table (entry_table own line entry) ≡ true
+  entry_table_lem : (entry : Entry) → (entry_taken own holding line entry).verdict ≡ Ok tt → is_table (entry_table own line entry) ≡ true
   unfolding entry_taken longer_by
   entry_table_lem (Entry.Column column) e =
       extended_table (begun own) (line_column line) (line_cells line) longest_table (grown_extensible own holding.count line (answered_clear _ _ e).0).1
   entry_table_lem (Entry.On on) e = table
 
-  parsed_table_lem : (p : Parsed) → (parsed_taken own holding line p).verdict ≡ Verdict.Accepted → is_table (parsed_table own line p) ≡ true
+  parsed_table_lem : (p : Parsed) → (parsed_taken own holding line p).verdict ≡ Ok tt → is_table (parsed_table own line p) ≡ true
   unfolding parsed_taken
-  parsed_table_lem (Parsed.Taken entry) e = entry_table_lem entry e
-  parsed_table_lem (Parsed.Refused r) e = table
+  parsed_table_lem (Ok entry) e = entry_table_lem entry e
+  parsed_table_lem (Err r) e = table
 
   column_silent : (v : Verdict) → length (report_text (answered v (column_taken holding.count)).report) ≤ 0
   unfolding answered report_text
-  column_silent Verdict.Accepted = omega arith
-  column_silent (Verdict.Refused r) = omega arith
+  column_silent (Ok _) = omega arith
+  column_silent (Err r) = omega arith
 
   entry_length : (entry : Entry) → length (report_text (entry_taken own holding line entry).report) ≤ most_printed_by entry
   unfolding entry_taken
@@ -78,8 +79,8 @@ module _ (own : List ℕ) (table : is_table own ≡ true) (holding : Holding) (k
   line_length = go (entry_of line) refl
     where
       go : (p : Parsed) → entry_of line ≡ p → length (report_text (parsed_taken own holding line p).report) ≤ most_for_byte * (length line + 1)
-      go (Parsed.Taken entry) e = omega (arith, entry_length entry, entry_wide line entry e)
-      go (Parsed.Refused r) e = omega arith
+      go (Ok entry) e = omega (arith, entry_length entry, entry_wide line entry e)
+      go (Err r) e = omega arith
 
 -- what every line keeps of a run
 pub record RunKept (run : Run) : Type 0 where

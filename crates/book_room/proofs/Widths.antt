@@ -1,10 +1,11 @@
 -- How short a line of an entry that prints can be: R has three fields, of which the last is a year, and W has two.
+use Rattle.std.specs.Prelude.{Ok, Err}
 use Rattle.laws.proofs.Elements.{or_false_right, clash}
 use Rattle.laws.proofs.{ℕ, zero, suc, ◌+◌, ◌-◌, ◌*◌, ◌/◌, ◌≤◌, ◌<◌, Bool, true, false, cond, ◌≡◌, refl, ap, List, [], ◌∷◌, arith, eqb, eqb-true, not-false, length, get_or, take, length-take}
 use Rattle.book_room.specs.{return_width, withdrawal_width, most_for_byte}
 use Rattle.text.specs.{digits, extend, split, field_at}
 use Rattle.text.proofs.Digits.{length-digits_step, digits-some}
-use Rattle.text_number.specs.{Number, number_in}
+use Rattle.text_number.specs.{Number, Unread, number_in}
 use Rattle.text_value.specs.{outside}
 use Rattle.text_value.proofs.Laws.{inside}
 use Rattle.text_number.proofs.RoundTrip.{canonical}
@@ -44,11 +45,11 @@ year_digits : (f : List ℕ) → outside 2008 2199 (number_in f) ≡ false → 4
 year_digits f e = go (number_in f) refl e
   where
     go : (n : Number) → number_in f ≡ n → outside 2008 2199 n ≡ false → 4 ≤ length f
-    go (Number.Value v) q e =
-        let range = inside 2008 2199 (Number.Value v) e in
+    go (Ok v) q e =
+        let range = inside 2008 2199 (Ok v) e in
         omega (arith, four_digits v (omega arith), ap length (canonical f v q))
-    go Number.Large q e = clash e
-    go Number.Malformed q e = clash e
+    go (Err Unread.Large) q e = clash e
+    go (Err Unread.Malformed) q e = clash e
 
 -- the bytes that an accepted act prints at most
 abbrev pub most_printed : Act → ℕ
@@ -119,18 +120,18 @@ body_within line = go (eqb (get_or line (length line - 1) 0) 10)
     go false = omega arith
 
 -- what an entry prints is at most 11 bytes for each byte of its line and its end
-pub entry_wide : (line : List ℕ) (entry : Entry) → entry_of line ≡ Parsed.Taken entry → most_printed_by entry ≤ most_for_byte * (length line + 1)
+pub entry_wide : (line : List ℕ) (entry : Entry) → entry_of line ≡ Ok entry → most_printed_by entry ≤ most_for_byte * (length line + 1)
 unfolding entry_of parsed conditions line_rule
 entry_wide line entry e = go (smallest (conditions (body_of line))) refl e
   where
     rule : Entry
     rule = (line_rule (body_of line)).entry
 
-    same : Parsed.Taken rule ≡ Parsed.Taken entry → rule ≡ entry
+    same : ◌≡◌ {A = Parsed} (Ok rule) (Ok entry) → rule ≡ entry
     same q = cc
 
-    go : (v : Verdict) → smallest (conditions (body_of line)) ≡ v → parsed v rule ≡ Parsed.Taken entry → most_printed_by entry ≤ most_for_byte * (length line + 1)
-    go Verdict.Accepted q e =
+    go : (v : Verdict) → smallest (conditions (body_of line)) ≡ v → parsed v rule ≡ Ok entry → most_printed_by entry ≤ most_for_byte * (length line + 1)
+    go (Ok _) q e =
         let n = ruled_out (conditions (body_of line)) q in
         omega (arith, ap most_printed_by (same e), rule_wide (body_of line) _ (λ i. n (suc (suc i))), body_within line)
-    go (Verdict.Refused r) q e = let z : ◌≡◌ {A = ℕ} 0 1 = cc in absurd (omega arith)
+    go (Err r) q e = let z : ◌≡◌ {A = ℕ} 0 1 = cc in absurd (omega arith)

@@ -1,4 +1,5 @@
 -- A line's turn in an export, one law for each kind of line: it is a turn (Turns) of some outcome, by which the areas stand and the row is put.
+use Rattle.std.specs.Prelude.{Ok, Err}
 use Rattle.laws.proofs.{ℕ, ◌-◌, ◌≤◌, ◌≡◌, refl, sym, ap, ◌∙◌, List, [], length, take}
 use Rattle.text.specs.{greatest, Wrote}
 use Rattle.text.proofs.Writes.{wrote_none, wrote_as}
@@ -43,7 +44,7 @@ module _ (numbers : List ℕ) (count : ℕ) (fits : count ≤ longest_table) (lo
   unfolding sheet_text texts
   none rows e = wrote_as (ap sheet_text (sym e)) (wrote_none out at lent inside)
 
-  pub went_refused : (refusal : Refusal) → parsed ≡ Parsed.Refused refusal → WentTo numbers count holding out at
+  pub went_refused : (refusal : Refusal) → parsed ≡ Err refusal → WentTo numbers count holding out at
   unfolding placed
   went_refused refusal e = record {
     outcome = turned_back refusal;
@@ -52,16 +53,16 @@ module _ (numbers : List ℕ) (count : ℕ) (fits : count ≤ longest_table) (lo
     wrote = none [] refl;
   }
 
-  no_row : (v : Verdict) (column : ℕ) → exported_for v (Parsed.Taken (Entry.Column column)) line ≡ []
-  no_row Verdict.Accepted column = refl
-  no_row (Verdict.Refused refusal) column = refl
+  no_row : (v : Verdict) (column : ℕ) → exported_for v (Ok (Entry.Column column)) line ≡ []
+  no_row (Ok _) column = refl
+  no_row (Err refusal) column = refl
 
   no_place : (v : Verdict) → holding ≡ placed holding (answered v (column_taken looked.count))
   unfolding answered placed
-  no_place Verdict.Accepted = refl
-  no_place (Verdict.Refused refusal) = refl
+  no_place (Ok _) = refl
+  no_place (Err refusal) = refl
 
-  pub went_column : (entry : Entry) (column : ℕ) → parsed ≡ Parsed.Taken entry → entry ≡ Entry.Column column → (v : Verdict) (table : List ℕ) (left : ℕ)
+  pub went_column : (entry : Entry) (column : ℕ) → parsed ≡ Ok entry → entry ≡ Entry.Column column → (v : Verdict) (table : List ℕ) (left : ℕ)
       → v ≡ growable own holding.count line → table ≡ column_numbers numbers count holding.count line → left ≡ column_count numbers count holding.count line
       → WentTo table left holding out at
   went_column entry column e k v table left g t l =
@@ -70,17 +71,17 @@ module _ (numbers : List ℕ) (count : ℕ) (fits : count ≤ longest_table) (lo
         outcome = outcome;
         turn = line_column_lem numbers count fits long default looked line parsed _ entry column v table left e k refl g t l;
         stands = no_place v;
-        wrote = none _ (ap (λ (x : Parsed). exported_for outcome.verdict x line) (e ∙ ap Parsed.Taken k) ∙ no_row _ column);
+        wrote = none _ (ap (λ (x : Parsed). exported_for outcome.verdict x line) (e ∙ ap Ok k) ∙ no_row _ column);
       }
 
-  pub went_act : area_numbers ≡ numbers_in holding.areas → (entry : Entry) (on : AreaAct) → parsed ≡ Parsed.Taken entry → entry ≡ Entry.On on
+  pub went_act : area_numbers ≡ numbers_in holding.areas → (entry : Entry) (on : AreaAct) → parsed ≡ Ok entry → entry ≡ Entry.On on
       → (v : Verdict) → v ≡ (applied (take (count - 0) numbers) default holding on).verdict
       → (then : Holding) → then ≡ placed holding (applied (take (count - 0) numbers) default holding on)
-      → (after : List ℕ) (place : ℕ) → Wrote out at (sheet_text (exported_for v (Parsed.Taken entry) line)) after place → WentTo numbers count then after place
+      → (after : List ℕ) (place : ℕ) → Wrote out at (sheet_text (exported_for v (Ok entry) line)) after place → WentTo numbers count then after place
   unfolding applied
   went_act n entry on e k v is then h after place w =
-      let named : looked_for holding area_numbers parsed ≡ looked_for holding area_numbers (Parsed.Taken (Entry.On on)) =
-      ap (looked_for holding area_numbers) (e ∙ ap Parsed.Taken k) in
+      let named : looked_for holding area_numbers parsed ≡ looked_for holding area_numbers (Ok (Entry.On on)) =
+      ap (looked_for holding area_numbers) (e ∙ ap Ok k) in
       let row : Verdict → Parsed → List ℕ = λ x read. sheet_text (exported_for x read line) in
       let up = sym (named ∙ looked_up_lem holding area_numbers n on) in
       record {

@@ -1,10 +1,11 @@
 -- A turn of the loop is a turn of the fold: the code's table, holding and counts after a line are those of the run that follows.
+use Rattle.std.specs.Prelude.{Ok, Err, Option}
 use Rattle.laws.proofs.{ℕ, ◌+◌, ◌-◌, ◌≡◌, ap, ◌∙◌, List, arith, take}
 use Rattle.refusals.specs.{Verdict}
 use Rattle.schedules.specs.{schedule6}
 use Rattle.line_entry.specs.{Parsed}
 use Rattle.line.specs.{entry_of}
-use Rattle.holding.specs.{Area, Holding, Found, numbers_in}
+use Rattle.holding.specs.{Area, Holding, numbers_in}
 use Rattle.holding_look.specs.{Looked, area_at}
 use Rattle.step_outcome.specs.{Outcome, placed}
 use Rattle.book_listing.specs.{parsed_taken, line_taken, parsed_table, if_accepted, table_after, Run, next, printed_for, printed}
@@ -16,11 +17,11 @@ use Rattle.book_run.specs.{parsed_outcome}
 use Rattle.book_run.proofs.Turns.{turn_taken}
 
 one_or_none : (v : Verdict) (a r : ℕ) → (a + if_accepted v 1 0 ≡ if_accepted v (a + 1) a) × (r + (1 - if_accepted v 1 0) ≡ if_accepted v r (r + 1))
-one_or_none Verdict.Accepted a r = omega arith
-one_or_none (Verdict.Refused refusal) a r = omega arith
+one_or_none (Ok _) a r = omega arith
+one_or_none (Err refusal) a r = omega arith
 
 -- a line taken on the area that was looked up, with the run's own table and the cells of Schedule 6
-module _ (run : Run) (area_numbers : List ℕ) (i : area_numbers ≡ numbers_in run.holding.areas) (line default : List ℕ) (parsed : Parsed) (names : Named) (found : Found) (area : Area) (outcome : Outcome)
+module _ (run : Run) (area_numbers : List ℕ) (i : area_numbers ≡ numbers_in run.holding.areas) (line default : List ℕ) (parsed : Parsed) (names : Named) (found : Option ℕ) (area : Area) (outcome : Outcome)
     (t : outcome ≡ parsed_outcome run.own default (record { number = names.number; count = run.holding.count; found = found; area = area }) line parsed)
     (p : parsed ≡ entry_of line) (n : names ≡ named_by (take run.holding.count area_numbers) parsed) (f : found ≡ names.found) (a : area ≡ area_at run.holding found)
     (d : default ≡ schedule6) where

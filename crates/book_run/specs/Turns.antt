@@ -1,5 +1,5 @@
 -- A line's turn, as it was read, on the area that was looked up for it. `own` is the participant's table, `default` the cells of Schedule 6 as they are lent.
-use Rattle.std.specs.Prelude.{◌≡◌}
+use Rattle.std.specs.Prelude.{◌≡◌, Ok, Err}
 use Rattle.laws.specs.{ℕ, List}
 use Rattle.refusals.specs.{Refusal}
 use Rattle.line_entry.specs.{Entry, Parsed}
@@ -12,13 +12,13 @@ use Rattle.book_column.specs.{Fronts}
 
 -- why a line is no entry; Form stands where it is one
 abbrev pub refusal_in : Parsed → Refusal
-refusal_in (Parsed.Taken entry) = Refusal.Form
-refusal_in (Parsed.Refused refusal) = refusal
+refusal_in (Ok entry) = Refusal.Form
+refusal_in (Err refusal) = refusal
 
 unfoldable pub parsed_outcome : List ℕ → List ℕ → Looked → List ℕ → Parsed → Outcome
-parsed_outcome own default looked line (Parsed.Taken (Entry.Column column)) = answered (growable own looked.count line) (column_taken looked.count)
-parsed_outcome own default looked line (Parsed.Taken (Entry.On on)) = acted own default looked on.act
-parsed_outcome own default looked line (Parsed.Refused refusal) = turned_back refusal
+parsed_outcome own default looked line (Ok (Entry.Column column)) = answered (growable own looked.count line) (column_taken looked.count)
+parsed_outcome own default looked line (Ok (Entry.On on)) = acted own default looked on.act
+parsed_outcome own default looked line (Err refusal) = turned_back refusal
 
 -- what the line comes to, and the table that it leaves in front of an array's numbers: the longer one where a T line is accepted
 pub record Turn (own default : List ℕ) (looked : Looked) (line : List ℕ) (parsed : Parsed) (outcome : Outcome) (numbers : List ℕ) (count : ℕ) : Type 0 where

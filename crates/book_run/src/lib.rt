@@ -15,7 +15,7 @@ ghost use Rattle.book_run.specs.{refusal_in, Turn, RunsIf};
 
 use book_listing::LONGEST_BOOK;
 use book_reached::Reached;
-use holding::{Area, Found, MOST_AREAS};
+use holding::{Area, MOST_AREAS};
 use holding_look::Looked;
 use line_entry::{AreaAct, Entry, Parsed};
 use refusals::{Refusal, Verdict};
@@ -27,8 +27,8 @@ fn refusal_in(parsed: Parsed) -> Refusal
     ensures { result ≡ refusal_in parsed }
 {
     match parsed {
-        Parsed::Refused(refusal) => refusal,
-        Parsed::Taken(_) => Refusal::Form,
+        Err(refusal) => refusal,
+        Ok(_) => Refusal::Form,
     }
 }
 
@@ -37,14 +37,14 @@ fn column_outcome(verdict: Verdict, areas: usize) -> Outcome
     ensures { result ≡ answered verdict (column_taken areas) }
 {
     let count = match verdict {
-        Verdict::Refused(_) => 0,
-        Verdict::Accepted => areas,
+        Err(_) => 0,
+        Ok(()) => areas,
     };
     let area = holding::empty_area();
     Outcome {
         verdict,
         report: Report::Nothing,
-        place: Found::Nowhere,
+        place: None,
         count,
         area,
     }
@@ -63,7 +63,7 @@ fn take_line(
     requires { (count.old ≤ longest_table) × (length table.old ≡ longest_table) }
     ensures { Turn (take count.old table.old) default.now looked line.now parsed result table.new count.new }
 {
-    let Parsed::Taken(entry) = parsed else {
+    let Ok(entry) = parsed else {
         return step_outcome::turned(refusal_in(parsed));
     };
     let Entry::On(on) = entry else {
@@ -86,7 +86,7 @@ fn place(
     ensures areas_after { record { count = standing.new; areas = areas.new } ≡ placed (record { count = standing.old; areas = areas.old }) outcome.now }
     ensures numbers_after { numbers.new ≡ numbers_in areas.new }
 {
-    if let Found::At(k) = outcome.place {
+    if let Some(k) = outcome.place {
         if k < MOST_AREAS {
             areas[k] = outcome.area;
             numbers[k] = outcome.area.number;
@@ -110,7 +110,7 @@ fn take_act(
         in record { count = standing.new; areas = areas.new } ≡ placed holding (applied own.now default.now holding on) }
     ensures numbers_after { numbers.new ≡ numbers_in areas.new }
 {
-    let names = book_find::find(numbers, *standing, Parsed::Taken(Entry::On(on)));
+    let names = book_find::find(numbers, *standing, Ok(Entry::On(on)));
     let found = names.found;
     let mut looked = Looked {
         number: names.number,
@@ -118,7 +118,7 @@ fn take_act(
         found,
         area: holding::empty_area(),
     };
-    if let Found::At(k) = found {
+    if let Some(k) = found {
         if k < MOST_AREAS {
             looked.area = areas[k];
         }
@@ -184,13 +184,14 @@ pub fn put_lines(
     let mut left = most;
     let mut at = at;
     let mut i = next;
+    // The place reached is handed back, to go on from: `RunOf` speaks of it, and an iterator over lines would lose it.
     while (i < book.len()) & (0 < left) {
         let end = text::end_of(book, i, b'\n');
         let parsed = line::parse(&book[i..end]);
         let names = book_find::find(&numbers, holding.count, parsed);
         let found = names.found;
         let mut named = none;
-        if let Found::At(k) = found {
+        if let Some(k) = found {
             if k < MOST_AREAS {
                 named = holding.areas[k];
             }
@@ -214,15 +215,12 @@ pub fn put_lines(
         let taken = book_listing::counted(verdict);
         accepted += taken;
         refused += 1 - taken;
-        let place = outcome.place;
-        if let Found::At(k) = place {
-            let area = outcome.area;
-            if k < MOST_AREAS {
-                holding.areas[k] = area;
-                numbers[k] = area.number;
-            }
-            holding.count = outcome.count;
-        }
+        place(
+            &mut holding.areas,
+            &mut numbers,
+            &mut holding.count,
+            &outcome,
+        );
         i = end + 1;
         left -= 1;
     }
@@ -260,10 +258,15 @@ pub fn put_rows(book: &[u8], out: &mut [u8], at: usize) -> usize
         let end = text::end_of(book, i, b'\n');
         let parsed = line::parse(&book[i..end]);
         // A refused line changes nothing, and a row is put for an act alone.
-        if let Parsed::Taken(entry) = parsed {
+        if let Ok(entry) = parsed {
             match entry {
                 Entry::Column { column: _ } => {
-                    book_column::take_column(&mut table, &mut count, standing, &book[i..end]);
+                    let _ = book_column::take_column(
+                        &mut table,
+                        &mut count,
+                        standing,
+                        &book[i..end],
+                    );
                 }
                 Entry::On(on) => {
                     let own = &table[..];

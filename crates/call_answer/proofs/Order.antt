@@ -1,5 +1,6 @@
 -- The order of a call's parts. A line is refused by a number up to 6 and a table by 6; a statement is refused by 11, and an entry that was read, on any
 -- holding and table, by no number below 6. So a refused line decides, then a refused table, and only the statement and the state are weighed together.
+use Rattle.std.specs.Prelude.{Ok, Err}
 use Rattle.laws.proofs.{ℕ, ◌/◌, ◌%◌, ◌≤◌, ◌≡◌, refl, Bool, true, false, not, List, arith, eqb, leb, ltb, lit≤, length}
 use Rattle.text.specs.{split}
 use Rattle.refusals.specs.{smaller, Refusal, Verdict, number_of, weighed, weigh_all, smallest}
@@ -40,7 +41,7 @@ rules_end : (letter : ℕ) (fs : List (List ℕ)) → ends_at 6 (rule_of letter 
 unfolding no_rule column_rule area_and_year open_rule add_rule clear_rule plant_rule file_rule withdraw_rule ends_at
 rules_end letter fs = of_letters (λ (x : Rule). ends_at 6 x.cases ≡ true) fs refl refl refl refl refl refl refl refl letter
 
-pub line_six : (line : List ℕ) (r : Refusal) → entry_of line ≡ Parsed.Refused r → number_of r ≤ 6
+pub line_six : (line : List ℕ) (r : Refusal) → entry_of line ≡ Err r → number_of r ≤ 6
 unfolding entry_of conditions line_rule ends_at
 line_six line r e =
     let body = body_of line in
@@ -48,12 +49,12 @@ line_six line r e =
 
 -- ---- the table: 6
 
-pub table_six : (table : List ℕ) (r : Refusal) → table_verdict table ≡ Verdict.Refused r → r ≡ Refusal.TableColumn
+pub table_six : (table : List ℕ) (r : Refusal) → table_verdict table ≡ Err r → r ≡ Refusal.TableColumn
 unfolding table_verdict decodable smallest weigh_all weighed
 table_six table r e = go (not (eqb (length table % 2) 0)) (ltb longest_table (length table / 2)) (not (is_table (numbers_of table))) e
   where
     go : (odd long unkept : Bool)
-        → weighed (weighed (weighed (weighed Verdict.Accepted odd Refusal.TableColumn) long Refusal.TableColumn) long Refusal.OutputShort) unkept Refusal.TableColumn ≡ Verdict.Refused r
+        → weighed (weighed (weighed (weighed (Ok tt) odd Refusal.TableColumn) long Refusal.TableColumn) long Refusal.OutputShort) unkept Refusal.TableColumn ≡ Err r
         → r ≡ Refusal.TableColumn
     go true long unkept e = cc
     go false true unkept e = cc
@@ -68,8 +69,8 @@ table-from_six table =
 -- ---- the statement: 11
 
 read_by : (v : Verdict) (holding : Holding) → (read_if v holding).verdict ≡ v
-read_by Verdict.Accepted holding = refl
-read_by (Verdict.Refused r) holding = refl
+read_by (Ok _) holding = refl
+read_by (Err r) holding = refl
 
 pub read-from_eleven : (statement : List ℕ) → From 11 (read_of statement).verdict
 unfolding read_within acceptable_within starts_at
@@ -81,7 +82,7 @@ read-from statement n h = from_less n 11 (read_of statement).verdict (omega arit
 
 -- ---- the state: an entry that was read
 
-growable-from_six : (own : List ℕ) (areas : ℕ) (line : List ℕ) (column : ℕ) → entry_of line ≡ Parsed.Taken (Entry.Column column) → From 6 (growable own areas line)
+growable-from_six : (own : List ℕ) (areas : ℕ) (line : List ℕ) (column : ℕ) → entry_of line ≡ Ok (Entry.Column column) → From 6 (growable own areas line)
 unfolding extensible starts_at
 growable-from_six own areas line column read =
     rw (column_grows own areas line column read).0
@@ -97,7 +98,7 @@ module _ (own : List ℕ) (holding : Holding) (line : List ℕ) where
   act_from_six area (Act.File last) a r = answered-from 6 _ _ refl (rw (a, r))
   act_from_six area Act.Withdraw a r = answered-from 6 _ _ refl (rw a)
 
-  entry-from_six : (entry : Entry) → entry_of line ≡ Parsed.Taken entry → EntryRanged entry → From 6 (entry_taken own holding line entry).verdict
+  entry-from_six : (entry : Entry) → entry_of line ≡ Ok entry → EntryRanged entry → From 6 (entry_taken own holding line entry).verdict
   unfolding entry_taken applied
   entry-from_six (Entry.On on) read r = act_from_six on.area on.act r.0 r.1
   entry-from_six (Entry.Column column) read r =
@@ -106,14 +107,14 @@ module _ (own : List ℕ) (holding : Holding) (line : List ℕ) where
 -- ---- the call
 
 first_of_four : (r : Refusal) (table statement : Verdict) → From (number_of r) table → From (number_of r) statement
-    → smaller (Verdict.Refused r) (smaller table (smaller statement (Verdict.Refused r))) ≡ Verdict.Refused r
+    → smaller (Err r) (smaller table (smaller statement (Err r))) ≡ Err r
 first_of_four r table statement p q =
     let n = number_of r in
-    smaller-first r (smaller table (smaller statement (Verdict.Refused r)))
-    (smaller-from n table (smaller statement (Verdict.Refused r)) p (smaller-from n statement (Verdict.Refused r) q (omega arith)))
+    smaller-first r (smaller table (smaller statement (Err r)))
+    (smaller-from n table (smaller statement (Err r)) p (smaller-from n statement (Err r) q (omega arith)))
 
 module _ (statement table line : List ℕ) where
-  pub line_decides : (r : Refusal) → entry_of line ≡ Parsed.Refused r → call_verdict statement table line ≡ Verdict.Refused r
+  pub line_decides : (r : Refusal) → entry_of line ≡ Err r → call_verdict statement table line ≡ Err r
   unfolding call_verdict line_taken parsed_taken
   line_decides r e =
       let n = number_of r in
@@ -123,8 +124,8 @@ module _ (statement table line : List ℕ) where
       (from_less n 6 (table_verdict table) few (table-from_six table))
       (read-from statement n few))
 
-  module _ (entry : Entry) (read : entry_of line ≡ Parsed.Taken entry) where
-    pub table_decides : (r : Refusal) → table_verdict table ≡ Verdict.Refused r → call_verdict statement table line ≡ Verdict.Refused r
+  module _ (entry : Entry) (read : entry_of line ≡ Ok entry) where
+    pub table_decides : (r : Refusal) → table_verdict table ≡ Err r → call_verdict statement table line ≡ Err r
     unfolding call_verdict line_taken parsed_taken
     table_decides r e =
         let six = table_six table r e in

@@ -1,12 +1,13 @@
 -- What a line is read as is within the ranges of document 01's "Entries": the cases of its letter's rule, of which none applies, say so.
+use Rattle.std.specs.Prelude.{Ok, Some, None, Option, Err}
 use Rattle.laws.proofs.{ℕ, suc, ◌+◌, ◌/◌, ◌≤◌, ◌≡◌, refl, subst, true, false, ◌&&◌, List, arith, le-leb, ltb-false, eq-eqb, leb, ltb}
 use Rattle.laws.proofs.Elements.{or_false_left, or_false_right, clash}
 use Rattle.text.specs.{split}
 use Rattle.refusals.specs.{smallest}
 use Rattle.refusals.proofs.Laws.{RuledOut, ruled_out}
 use Rattle.units.specs.{tenths_of}
-use Rattle.forest.specs.{Named, Forest}
-use Rattle.text_number.specs.{Number}
+use Rattle.forest.specs.{Forest}
+use Rattle.text_number.specs.{Number, Unread}
 use Rattle.text_value.specs.{outside, value_of}
 use Rattle.ranges.specs.{is_bare, is_area, is_sub, is_year, is_land, is_planted}
 use Rattle.line_entry.specs.{Act, Entry, number_at, hectares_at, type_at, bad_area, bad_sub, bad_year, Rule, area_and_year, open_rule, add_rule, clear_rule, plant_rule, file_rule, withdraw_rule, Parsed}
@@ -30,9 +31,9 @@ EntryRanged (Entry.Column column) = Unit
 EntryRanged (Entry.On on) = (is_area on.area ≡ true) × Ranged on.act
 
 within : (low high : ℕ) (n : Number) → outside low high n ≡ false → (low ≤ value_of n) × (value_of n ≤ high)
-within low high (Number.Value n) e = (ltb-false n low (or_false_left _ (ltb high n) e), ltb-false high n (or_false_right (ltb n low) _ e))
-within low high Number.Large e = clash e
-within low high Number.Malformed e = clash e
+within low high (Ok n) e = (ltb-false n low (or_false_left _ (ltb high n) e), ltb-false high n (or_false_right (ltb n low) _ e))
+within low high (Err Unread.Large) e = clash e
+within low high (Err Unread.Malformed) e = clash e
 
 in_range : (low high : ℕ) (n : Number) → outside low high n ≡ false → leb low (value_of n) && leb (value_of n) high ≡ true
 in_range low high n e = let w = within low high n e in rw (le-leb low (value_of n) w.0, le-leb (value_of n) high w.1)
@@ -46,23 +47,23 @@ land_range n e =
     let high : (value_of n + 500) / 1000 ≤ 100000 = omega (arith, w.1) in
     rw (le-leb 10 ((value_of n + 500) / 1000) low, le-leb ((value_of n + 500) / 1000) 100000 high)
 
-planted_range : (type : Named) (n : Number) → unlisted type ≡ false → misdated type n ≡ false → is_planted (forest_of type) (value_of n) ≡ true
-planted_range Named.Unlisted n u e = clash u
-planted_range (Named.Listed Forest.Bare) n u e = let w = within 0 0 n e in rw (eq-eqb (value_of n) 0 (omega (arith, w.1)))
-planted_range (Named.Listed (Forest.Radiata region)) n u e = in_range 1900 2199 n e
-planted_range (Named.Listed Forest.DouglasFir) n u e = in_range 1900 2199 n e
-planted_range (Named.Listed Forest.ExoticSoftwoods) n u e = in_range 1900 2199 n e
-planted_range (Named.Listed Forest.ExoticHardwoods) n u e = in_range 1900 2199 n e
-planted_range (Named.Listed Forest.Indigenous) n u e = in_range 1900 2199 n e
+planted_range : (type : Option Forest) (n : Number) → unlisted type ≡ false → misdated type n ≡ false → is_planted (forest_of type) (value_of n) ≡ true
+planted_range None n u e = clash u
+planted_range (Some Forest.Bare) n u e = let w = within 0 0 n e in rw (eq-eqb (value_of n) 0 (omega (arith, w.1)))
+planted_range (Some (Forest.Radiata region)) n u e = in_range 1900 2199 n e
+planted_range (Some Forest.DouglasFir) n u e = in_range 1900 2199 n e
+planted_range (Some Forest.ExoticSoftwoods) n u e = in_range 1900 2199 n e
+planted_range (Some Forest.ExoticHardwoods) n u e = in_range 1900 2199 n e
+planted_range (Some Forest.Indigenous) n u e = in_range 1900 2199 n e
 
-plantable : (type : Named) → unplantable type ≡ false → is_bare (forest_of type) ≡ false
-plantable Named.Unlisted e = clash e
-plantable (Named.Listed Forest.Bare) e = clash e
-plantable (Named.Listed (Forest.Radiata region)) e = refl
-plantable (Named.Listed Forest.DouglasFir) e = refl
-plantable (Named.Listed Forest.ExoticSoftwoods) e = refl
-plantable (Named.Listed Forest.ExoticHardwoods) e = refl
-plantable (Named.Listed Forest.Indigenous) e = refl
+plantable : (type : Option Forest) → unplantable type ≡ false → is_bare (forest_of type) ≡ false
+plantable None e = clash e
+plantable (Some Forest.Bare) e = clash e
+plantable (Some (Forest.Radiata region)) e = refl
+plantable (Some Forest.DouglasFir) e = refl
+plantable (Some Forest.ExoticSoftwoods) e = refl
+plantable (Some Forest.ExoticHardwoods) e = refl
+plantable (Some Forest.Indigenous) e = refl
 
 -- a rule whose entry is within its ranges where none of its cases applies
 abbrev Sound : Rule → Type 0
@@ -121,7 +122,7 @@ module _ (fs : List (List ℕ)) where
   rule_sound : (letter : ℕ) → Sound (rule_of letter fs)
   rule_sound = of_letters Sound fs column_sound open_sound add-sound clear_sound plant_sound file_sound withdraw_sound none_sound
 
-pub entry_ranged : (line : List ℕ) (entry : Entry) → entry_of line ≡ Parsed.Taken entry → EntryRanged entry
+pub entry_ranged : (line : List ℕ) (entry : Entry) → entry_of line ≡ Ok entry → EntryRanged entry
 unfolding entry_of conditions line_rule
 entry_ranged line entry e =
     let body = body_of line in

@@ -1,5 +1,6 @@
 -- The verdict of a call is the smallest of the numbers of its four parts: the smaller of two is one of them, none has a smaller number, and it is
 -- clear just when both are.
+use Rattle.std.specs.Prelude.{Ok, Err}
 use Rattle.laws.proofs.{ℕ, ◌≡◌, sym, subst, List, ◌⊎◌, arith}
 use Rattle.refusals.specs.{Refusal, Verdict, number_of}
 use Rattle.refusals.proofs.Smaller.{From, from_both, among, smaller_clear}
@@ -22,8 +23,8 @@ module _ (statement table line : List ℕ) where
   abbrev state_part : Verdict
   state_part = (line_taken (numbers_of table) (read_of statement).holding line).verdict
 
-  pub call_clear : call_verdict statement table line ≡ Verdict.Accepted
-      → (line_part ≡ Verdict.Accepted) × (table-part ≡ Verdict.Accepted) × (statement-part ≡ Verdict.Accepted) × (state_part ≡ Verdict.Accepted)
+  pub call_clear : call_verdict statement table line ≡ Ok tt
+      → (line_part ≡ Ok tt) × (table-part ≡ Ok tt) × (statement-part ≡ Ok tt) × (state_part ≡ Ok tt)
   unfolding call_verdict
   call_clear e =
       let one = smaller_clear line_part _ e in
@@ -32,7 +33,7 @@ module _ (statement table line : List ℕ) where
       (one.0, two.0, three.0, three.1)
 
   -- "The smallest number that applies is given": no part has a smaller number
-  pub call_smallest : (r : Refusal) → call_verdict statement table line ≡ Verdict.Refused r
+  pub call_smallest : (r : Refusal) → call_verdict statement table line ≡ Err r
       → From (number_of r) line_part × From (number_of r) table-part × From (number_of r) statement-part × From (number_of r) state_part
   unfolding call_verdict
   call_smallest r e =

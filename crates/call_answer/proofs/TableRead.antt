@@ -1,4 +1,5 @@
 -- What was read of a table: its numbers stand in front, and are judged as its bytes are.
+use Rattle.std.specs.Prelude.{Ok, Err}
 use Rattle.laws.proofs.{ℕ, ◌-◌, ◌≤◌, ◌≡◌, refl, sym, ap, ◌∙◌, not, List, [], ◌∷◌, arith, length, take, drop, replicate, length-replicate}
 use lib.Seq.{take_at}
 use Rattle.refusals.specs.{Refusal, Verdict, weighed, weigh_all, smallest, Written, written, buffer_after}
@@ -32,12 +33,12 @@ module _ (table after : List ℕ) (decoded : Written) (e : decoded ≡ written (
   told : decoded ≡ written (decodable table longest_table) (numbers_of table)
   told = e ∙ ap (λ (n : ℕ). written (decodable table n) (numbers_of table)) long
 
-  pub table-refused : (r : Refusal) → decoded ≡ Written.Refused r → table_verdict table ≡ Verdict.Refused r
+  pub table-refused : (r : Refusal) → decoded ≡ Err r → table_verdict table ≡ Err r
   unfolding table_verdict weighed
   table-refused r q = rw (was_turned (decodable table longest_table) (numbers_of table) r (sym told ∙ q))
 
-  module _ (n : ℕ) (q : decoded ≡ Written.Count n) where
-    counted : (decodable table longest_table ≡ Verdict.Accepted) × (n ≡ length (numbers_of table))
+  module _ (n : ℕ) (q : decoded ≡ Ok n) where
+    counted : (decodable table longest_table ≡ Ok tt) × (n ≡ length (numbers_of table))
     counted = was_clear (decodable table longest_table) (numbers_of table) n (sym told ∙ q)
 
     pub table-few : n ≤ longest_table

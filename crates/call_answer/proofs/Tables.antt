@@ -1,4 +1,5 @@
 -- Tables of cases whose numbers lie from a number on, or up to one, but for cases that do not apply: so does the refusal given.
+use Rattle.std.specs.Prelude.{Ok, Err}
 use Rattle.laws.proofs.{ℕ, ◌≤◌, ◌≡◌, sym, ap, ◌∙◌, Bool, true, false, not, ◌&&◌, ◌||◌, List, [], ◌∷◌, arith, leb-true, leb}
 use Rattle.laws.proofs.Elements.{or_none}
 use Rattle.laws.proofs.Lists.{and_left, and_right}
@@ -20,18 +21,18 @@ starts_from_lem n (c ∷ cs) e = go c.applies (and_left first (starts_at n cs) e
     first : Bool
     first = leb n (number_of c.refusal) || not c.applies
 
-    go : (t : Bool) → (leb n (number_of c.refusal) || not t) ≡ true → From n (weigh_all Verdict.Accepted cs) → From n (weigh_all (weighed Verdict.Accepted t c.refusal) cs)
+    go : (t : Bool) → (leb n (number_of c.refusal) || not t) ≡ true → From n (weigh_all (Ok tt) cs) → From n (weigh_all (weighed (Ok tt) t c.refusal) cs)
     go true h rest = rw (turned_stands c.refusal cs) (leb-true n (number_of c.refusal) (sym (or_none (leb n (number_of c.refusal))) ∙ h))
     go false h rest = rest
 
 -- one case more
 pub weighed-from : (n : ℕ) (v : Verdict) (b : Bool) (r : Refusal) → From n v → n ≤ number_of r → From n (weighed v b r)
 unfolding weighed
-weighed-from n (Verdict.Refused s) b r f h = f
-weighed-from n Verdict.Accepted true r f h = h
-weighed-from n Verdict.Accepted false r f h = tt
+weighed-from n (Err s) b r f h = f
+weighed-from n (Ok _) true r f h = h
+weighed-from n (Ok _) false r f h = tt
 
-pub answered-from : (n : ℕ) (cs : List Case) (outcome : Outcome) → outcome.verdict ≡ Verdict.Accepted → starts_at n cs ≡ true
+pub answered-from : (n : ℕ) (cs : List Case) (outcome : Outcome) → outcome.verdict ≡ Ok tt → starts_at n cs ≡ true
     → From n (answered (smallest cs) outcome).verdict
 answered-from n cs outcome e s = rw (answered-verdict (smallest cs) outcome e) (starts_from_lem n cs s)
 
@@ -39,12 +40,12 @@ unfoldable pub ends_at : ℕ → List Case → Bool
 ends_at n [] = true
 ends_at n (c ∷ cs) = leb (number_of c.refusal) n && ends_at n cs
 
-pub ends_by : (n : ℕ) (cs : List Case) (r : Refusal) → ends_at n cs ≡ true → smallest cs ≡ Verdict.Refused r → number_of r ≤ n
+pub ends_by : (n : ℕ) (cs : List Case) (r : Refusal) → ends_at n cs ≡ true → smallest cs ≡ Err r → number_of r ≤ n
 unfolding ends_at smallest weigh_all weighed
 ends_by n [] r e q = let z : ◌≡◌ {A = ℕ} 0 1 = cc in absurd (omega arith)
 ends_by n (c ∷ cs) r e q = go c.applies q (ends_by n cs r (and_right (leb (number_of c.refusal) n) (ends_at n cs) e))
   where
-    go : (t : Bool) → weigh_all (weighed Verdict.Accepted t c.refusal) cs ≡ Verdict.Refused r → (weigh_all Verdict.Accepted cs ≡ Verdict.Refused r → number_of r ≤ n) → number_of r ≤ n
+    go : (t : Bool) → weigh_all (weighed (Ok tt) t c.refusal) cs ≡ Err r → (weigh_all (Ok tt) cs ≡ Err r → number_of r ≤ n) → number_of r ≤ n
     go true q rest =
         let same : c.refusal ≡ r = cc (turned_stands c.refusal cs) in
         omega (arith, leb-true (number_of c.refusal) n (and_left (leb (number_of c.refusal) n) (ends_at n cs) e), ap number_of same)

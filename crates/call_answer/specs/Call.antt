@@ -1,4 +1,5 @@
 -- "The field unit's own program, written in C, calls the engine with a statement, a table, a line and an output buffer."
+use Rattle.std.specs.Prelude.{Ok, Err}
 use Rattle.laws.specs.{ℕ, not, List, [], length, ℤ, pos, neg_ℤ}
 use Rattle.refusals.specs.{Verdict, number_of, weighed, smaller, buffer_after, Refusal}
 use Rattle.table.specs.{is_table, longest_table}
@@ -15,8 +16,8 @@ use Rattle.book_listing.specs.{line_taken}
 
 -- what refuses the line itself
 abbrev pub line_verdict : Parsed → Verdict
-line_verdict (Parsed.Taken entry) = Verdict.Accepted
-line_verdict (Parsed.Refused refusal) = Verdict.Refused refusal
+line_verdict (Ok entry) = (Ok tt)
+line_verdict (Err refusal) = Err refusal
 
 -- "6 table column, length .., order, cell or odd byte"
 unfoldable pub table_verdict : List ℕ → Verdict
@@ -37,8 +38,8 @@ entry_bytes own holding line (Entry.Column column) = table_bytes (longer_by own 
 entry_bytes own holding line (Entry.On on) = state_bytes holding (applied own schedule6 holding on)
 
 abbrev pub parsed_bytes : List ℕ → Holding → List ℕ → Parsed → List ℕ
-parsed_bytes own holding line (Parsed.Taken entry) = entry_bytes own holding line entry
-parsed_bytes own holding line (Parsed.Refused refusal) = []
+parsed_bytes own holding line (Ok entry) = entry_bytes own holding line entry
+parsed_bytes own holding line (Err refusal) = []
 
 unfoldable pub call_bytes : List ℕ → List ℕ → List ℕ → List ℕ
 call_bytes statement table line = parsed_bytes (numbers_of table) (read_of statement).holding line (entry_of line)
@@ -49,8 +50,8 @@ call_weighed statement table line room = with_room (call_verdict statement table
 
 -- "The call returns the bytes written, or a refusal's number with a minus sign."
 abbrev pub answer_of : Verdict → List ℕ → ℤ
-answer_of Verdict.Accepted bytes = pos (length bytes)
-answer_of (Verdict.Refused refusal) bytes = neg_ℤ (pos (number_of refusal))
+answer_of (Ok _) bytes = pos (length bytes)
+answer_of (Err refusal) bytes = neg_ℤ (pos (number_of refusal))
 
 unfoldable pub call_answer : List ℕ → List ℕ → List ℕ → ℕ → ℤ
 call_answer statement table line room = answer_of (call_weighed statement table line room) (call_bytes statement table line)

@@ -1,5 +1,6 @@
 -- What a call answers and writes. On a statement that is the writer's and a table's own bytes the verdict is the line's own, so that the call
 -- answers what `book` finds; where there is room, the bytes stand in front.
+use Rattle.std.specs.Prelude.{Ok, Err}
 use Rattle.laws.proofs.{ℕ, zero, suc, ◌≤◌, ◌<◌, ◌≡◌, refl, sym, ap, ◌∙◌, Bool, true, cond, List, [], ◌++◌, arith, le-leb, le-ltb, length, take, drop, take-append_seam}
 use lib.IntN.{ℤ, pos, negsuc, neg_ℤ}
 use Rattle.refusals.specs.{smaller, Refusal, number_of, weighed, buffer_after, Verdict}
@@ -25,22 +26,22 @@ module _ (statement table line out : List ℕ) where
   abbrev bytes : List ℕ
   bytes = call_bytes statement table line
 
-  pub answer_refused : (r : Refusal) → call_weighed statement table line (length out) ≡ Verdict.Refused r
+  pub answer_refused : (r : Refusal) → call_weighed statement table line (length out) ≡ Err r
       → (call_answer statement table line (length out) ≡ neg_ℤ (pos (number_of r))) × (call_output statement table line out ≡ out)
   unfolding call_answer call_output buffer_after
   answer_refused r w = (rw w, rw w)
 
-  pub answer_accepted : call_weighed statement table line (length out) ≡ Verdict.Accepted
+  pub answer_accepted : call_weighed statement table line (length out) ≡ Ok tt
       → (call_answer statement table line (length out) ≡ pos (length bytes)) × (call_output statement table line out ≡ bytes ++ drop (length bytes) out)
   unfolding call_answer call_output buffer_after
   answer_accepted w = (rw w, rw w)
 
-  weighed-refused : (r : Refusal) → call_verdict statement table line ≡ Verdict.Refused r → call_weighed statement table line (length out) ≡ Verdict.Refused r
+  weighed-refused : (r : Refusal) → call_verdict statement table line ≡ Err r → call_weighed statement table line (length out) ≡ Err r
   unfolding call_weighed with_room weighed
   weighed-refused r e = rw e
 
-  weighed-accepted : call_verdict statement table line ≡ Verdict.Accepted → length (call_bytes statement table line) ≤ length out
-      → call_weighed statement table line (length out) ≡ Verdict.Accepted
+  weighed-accepted : call_verdict statement table line ≡ Ok tt → length (call_bytes statement table line) ≤ length out
+      → call_weighed statement table line (length out) ≡ Ok tt
   unfolding call_weighed with_room weighed
   weighed-accepted e h = simp (e, le-ltb (length out) (length (call_bytes statement table line)) h)
 
@@ -56,12 +57,12 @@ minus_number r = minus_some (number_of r) (number_range r).0
 first_of_two : (own : List ℕ) (holding : Holding) (line : List ℕ) (parsed : Parsed)
     → smaller (line_verdict parsed) (parsed_taken own holding line parsed).verdict ≡ (parsed_taken own holding line parsed).verdict
 unfolding parsed_taken
-first_of_two own holding line (Parsed.Taken entry) = refl
-first_of_two own holding line (Parsed.Refused r) = simp (le-leb (number_of r) (number_of r) (omega arith))
+first_of_two own holding line (Ok entry) = refl
+first_of_two own holding line (Err r) = simp (le-leb (number_of r) (number_of r) (omega arith))
 
 module _ (own : List ℕ) (holding : Holding) (kept : Kept holding) (is_own : is_table own ≡ true) (statement table line out : List ℕ)
     (written : statement ≡ statement_of holding) (bytes : table ≡ table_bytes own) where
-  read_back : read_of statement ≡ record { verdict = Verdict.Accepted; holding = holding }
+  read_back : read_of statement ≡ record { verdict = (Ok tt); holding = holding }
   read_back = accepts_that statement holding kept (sym written)
 
   numbers : numbers_of table ≡ own
@@ -75,11 +76,11 @@ module _ (own : List ℕ) (holding : Holding) (kept : Kept holding) (is_own : is
   unfolding call_bytes
   own_bytes = rw (numbers, read_back)
 
-  pub refused_call : (r : Refusal) → (line_taken own holding line).verdict ≡ Verdict.Refused r
+  pub refused_call : (r : Refusal) → (line_taken own holding line).verdict ≡ Err r
       → (call_answer statement table line (length out) ≡ neg_ℤ (pos (number_of r))) × (call_output statement table line out ≡ out)
   refused_call r e = answer_refused statement table line out r (weighed-refused statement table line out r (own-verdict ∙ e))
 
-  pub accepted_call : (line_taken own holding line).verdict ≡ Verdict.Accepted → length (call_bytes statement table line) ≤ length out
+  pub accepted_call : (line_taken own holding line).verdict ≡ Ok tt → length (call_bytes statement table line) ≤ length out
       → (let written = parsed_bytes own holding line (entry_of line) in
       (call_answer statement table line (length out) ≡ pos (length written)) × (call_output statement table line out ≡ written ++ drop (length written) out))
   accepted_call e h = rw (← own_bytes) (answer_accepted statement table line out (weighed-accepted statement table line out (own-verdict ∙ e) h))

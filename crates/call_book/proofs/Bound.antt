@@ -1,5 +1,6 @@
 -- What a call writes at most: its holding is kept, so that the statement and the report are no longer than their fields' widths; a table is shorter.
 -- With an output of that length a book run line by line through the call gives the listing of `book`.
+use Rattle.std.specs.Prelude.{Ok, Err}
 use Rattle.laws.proofs.{ℕ, ◌≤◌, ◌≡◌, ◌∙◌, true, not, List, [], arith, not-false, le-ltb, length, length-append}
 use Rattle.refusals.specs.{Refusal, Verdict}
 use Rattle.refusals.proofs.Laws.{clear_last}
@@ -33,12 +34,12 @@ use Rattle.call_book.proofs.Lengths.{statement-few}
 use Rattle.call_book.proofs.CallsList.{calls_print, calls_list_within}
 
 -- a table that is accepted is one
-pub table_is : (table : List ℕ) → table_verdict table ≡ Verdict.Accepted → is_table (numbers_of table) ≡ true
+pub table_is : (table : List ℕ) → table_verdict table ≡ Ok tt → is_table (numbers_of table) ≡ true
 unfolding table_verdict
 table_is table e = not-false _ (clear_last (decodable table longest_table) (not (is_table (numbers_of table))) Refusal.TableColumn e)
 
 module _ (own : List ℕ) (holding : Holding) (is_own : is_table own ≡ true) (kept : Kept holding) (line : List ℕ) where
-  entry-few : (entry : Entry) → (entry_taken own holding line entry).verdict ≡ Verdict.Accepted → length (entry_bytes own holding line entry) ≤ most_written
+  entry-few : (entry : Entry) → (entry_taken own holding line entry).verdict ≡ Ok tt → length (entry_bytes own holding line entry) ≤ most_written
   unfolding entry_bytes entry_taken
   entry-few (Entry.Column column) e =
       let grown = (answered_clear (growable own holding.count line) _ e).0 in
@@ -55,12 +56,12 @@ module _ (own : List ℕ) (holding : Holding) (is_own : is_table own ≡ true) (
       )
 
 parsed-few : (own : List ℕ) (holding : Holding) → is_table own ≡ true → Kept holding → (line : List ℕ) (parsed : Parsed)
-    → (parsed_taken own holding line parsed).verdict ≡ Verdict.Accepted → length (parsed_bytes own holding line parsed) ≤ most_written
+    → (parsed_taken own holding line parsed).verdict ≡ Ok tt → length (parsed_bytes own holding line parsed) ≤ most_written
 unfolding parsed_taken
-parsed-few own holding is_own kept line (Parsed.Taken entry) e = entry-few own holding is_own kept line entry e
-parsed-few own holding is_own kept line (Parsed.Refused r) e = omega arith
+parsed-few own holding is_own kept line (Ok entry) e = entry-few own holding is_own kept line entry e
+parsed-few own holding is_own kept line (Err r) e = omega arith
 
-pub call_few : (statement table line : List ℕ) → call_verdict statement table line ≡ Verdict.Accepted → length (call_bytes statement table line) ≤ most_written
+pub call_few : (statement table line : List ℕ) → call_verdict statement table line ≡ Ok tt → length (call_bytes statement table line) ≤ most_written
 unfolding call_bytes line_taken
 call_few statement table line e =
     let parts = call_clear statement table line e in

@@ -1,5 +1,6 @@
 -- A book run line by line through the call gives the listing of `book`: after every line the program keeps the bytes of the holding and of the
 -- table that the listing carries, so every call is asked what `book` asks itself, and answers and prints the same; and so is the call for the foot.
+use Rattle.std.specs.Prelude.{Ok, Err}
 use Rattle.laws.proofs.{ℕ, suc, ◌+◌, ◌≤◌, ◌≡◌, refl, sym, ap, subst, ◌∙◌, Bool, true, false, cond, List, [], ◌∷◌, ◌++◌, arith, length, drop, length-append, length-drop}
 use lib.IntN.{pos, negsuc}
 use Rattle.refusals.specs.{Refusal, Verdict}
@@ -62,7 +63,7 @@ module _ (most : ℕ) (caller : Caller) (run : Run) (f : Follows most caller run
   abbrev needed : ℕ
   needed = length (call_bytes caller.statement caller.table line)
 
-  refused_matches : (r : Refusal) → outcome.verdict ≡ Verdict.Refused r → Matches most caller run line
+  refused_matches : (r : Refusal) → outcome.verdict ≡ Err r → Matches most caller run line
   unfolding line_taken refusal_text
   refused_matches r e =
       let call = refused_call own holding f.kept f.is_own caller.statement caller.table line caller.out f.statement f.table r e in
@@ -86,7 +87,7 @@ module _ (most : ℕ) (caller : Caller) (run : Run) (f : Follows most caller run
       }
 
   -- an accepted call: its output stands in front, and all of it is taken
-  module _ (clear : outcome.verdict ≡ Verdict.Accepted) (enough : needed ≤ most) (entry : Entry) (read : entry_of line ≡ Parsed.Taken entry) where
+  module _ (clear : outcome.verdict ≡ Ok tt) (enough : needed ≤ most) (entry : Entry) (read : entry_of line ≡ Ok entry) where
     abbrev written : List ℕ
     written = entry_bytes own holding line entry
 
@@ -109,7 +110,7 @@ module _ (most : ℕ) (caller : Caller) (run : Run) (f : Follows most caller run
     unfolding line_taken parsed_taken
     by_entry = rw read
 
-  column_matches : (column : ℕ) → outcome.verdict ≡ Verdict.Accepted → needed ≤ most → entry_of line ≡ Parsed.Taken (Entry.Column column) → Matches most caller run line
+  column_matches : (column : ℕ) → outcome.verdict ≡ Ok tt → needed ≤ most → entry_of line ≡ Ok (Entry.Column column) → Matches most caller run line
   unfolding placed report_text entry_taken entry_bytes
   column_matches column clear enough read =
       let after = accepted-after clear enough (Entry.Column column) read true refl in
@@ -129,7 +130,7 @@ module _ (most : ℕ) (caller : Caller) (run : Run) (f : Follows most caller run
         prints = after.1 ∙ sym (printed-accepted run line clear ∙ ap (λ (o : Outcome). report_text o.report) (same ∙ grown.1));
       }
 
-  act_matches : (on : AreaAct) → outcome.verdict ≡ Verdict.Accepted → needed ≤ most → entry_of line ≡ Parsed.Taken (Entry.On on) → Matches most caller run line
+  act_matches : (on : AreaAct) → outcome.verdict ≡ Ok tt → needed ≤ most → entry_of line ≡ Ok (Entry.On on) → Matches most caller run line
   unfolding entry_taken entry_bytes
   act_matches on clear enough read =
       let after = accepted-after clear enough (Entry.On on) read false refl in
@@ -148,27 +149,27 @@ module _ (most : ℕ) (caller : Caller) (run : Run) (f : Follows most caller run
         prints = after.1 ∙ ap report_in whole ∙ report_split (placed holding outcome) outcome.report ∙ sym (printed-accepted run line clear);
       }
 
-  line_matches : (call_verdict caller.statement caller.table line ≡ Verdict.Accepted → needed ≤ most) → Matches most caller run line
+  line_matches : (call_verdict caller.statement caller.table line ≡ Ok tt → needed ≤ most) → Matches most caller run line
   unfolding line_taken parsed_taken
   line_matches enough = by_verdict outcome.verdict refl
     where
-      by_parse : (p : Parsed) → entry_of line ≡ p → outcome.verdict ≡ Verdict.Accepted → needed ≤ most → Matches most caller run line
-      by_parse (Parsed.Refused r) e clear h =
+      by_parse : (p : Parsed) → entry_of line ≡ p → outcome.verdict ≡ Ok tt → needed ≤ most → Matches most caller run line
+      by_parse (Err r) e clear h =
           let turned = ap (λ (p : Parsed). (parsed_taken own holding line p).verdict) e in
           let z : ◌≡◌ {A = ℕ} 0 1 = cc in
           absurd (omega arith)
-      by_parse (Parsed.Taken (Entry.Column column)) e clear h = column_matches column clear h e
-      by_parse (Parsed.Taken (Entry.On on)) e clear h = act_matches on clear h e
+      by_parse (Ok (Entry.Column column)) e clear h = column_matches column clear h e
+      by_parse (Ok (Entry.On on)) e clear h = act_matches on clear h e
 
       by_verdict : (v : Verdict) → outcome.verdict ≡ v → Matches most caller run line
-      by_verdict (Verdict.Refused r) e = refused_matches r e
-      by_verdict Verdict.Accepted e =
+      by_verdict (Err r) e = refused_matches r e
+      by_verdict (Ok _) e =
           let same = own-verdict own holding f.kept f.is_own caller.statement caller.table line caller.out f.statement f.table in
           by_parse (entry_of line) refl e (enough (same ∙ e))
 
 -- the bytes that a call needs are at most so many
 abbrev pub Enough : ℕ → Type 0
-Enough most = (statement table line : List ℕ) → call_verdict statement table line ≡ Verdict.Accepted → length (call_bytes statement table line) ≤ most
+Enough most = (statement table line : List ℕ) → call_verdict statement table line ≡ Ok tt → length (call_bytes statement table line) ≤ most
 
 -- what a list of lines prints, and where it leaves the program
 record AllFollow (most : ℕ) (caller : Caller) (run : Run) (lines : List (List ℕ)) : Type 0 where

@@ -1,4 +1,5 @@
 -- A line that is read as an entry is a T entry just when its first byte is T: its letter is its first byte, and only T's rule makes a column.
+use Rattle.std.specs.Prelude.{Ok}
 use Rattle.laws.proofs.{ℕ, ◌-◌, ◌<◌, ◌≡◌, refl, sym, ap, ◌∙◌, Bool, true, false, cond, List, [], ◌∷◌, arith, eqb, length, get_or, take, length-take, get_or-take}
 use Rattle.laws.proofs.Elements.{clash}
 use Rattle.text.specs.{split}
@@ -10,11 +11,11 @@ use Rattle.line.proofs.Columns.{taken_by, is_column, column_rule_lem}
 use Rattle.call_book.specs.{is_column_line}
 
 -- what has no letter is refused
-no_letter : (body : List ℕ) → letter_of body ≡ 0 → smallest (conditions body) ≡ Verdict.Accepted → ⊥
+no_letter : (body : List ℕ) → letter_of body ≡ 0 → smallest (conditions body) ≡ Ok tt → ⊥
 unfolding conditions line_rule rule_of no_rule
 no_letter body e clear = let out = ruled_out (conditions body) clear 2 in clash (simp e at out)
 
-letter_first : (body : List ℕ) → smallest (conditions body) ≡ Verdict.Accepted → (letter_of body ≡ get_or body 0 0) × (0 < length body)
+letter_first : (body : List ℕ) → smallest (conditions body) ≡ Ok tt → (letter_of body ≡ get_or body 0 0) × (0 < length body)
 unfolding letter_of
 letter_first [] clear = absurd (no_letter [] refl clear)
 letter_first (b ∷ []) clear = (refl, omega arith)
@@ -32,7 +33,7 @@ body_first line h = go (eqb (get_or line (length line - 1) 0) 10) h
     go true h = get_or-take (length line - 1) line 0 0 (omega (arith, length-take (length line - 1) line))
     go false h = refl
 
-pub column_line : (line : List ℕ) (entry : Entry) → entry_of line ≡ Parsed.Taken entry → is_column entry ≡ is_column_line line
+pub column_line : (line : List ℕ) (entry : Entry) → entry_of line ≡ Ok entry → is_column entry ≡ is_column_line line
 unfolding entry_of line_rule is_column_line
 column_line line entry e =
     let body = body_of line in

@@ -1,4 +1,5 @@
 -- What an import writes at most: each row keeps a holding that is kept, so that the new statement is no longer than its fields' widths.
+use Rattle.std.specs.Prelude.{Ok, Err}
 use Rattle.laws.proofs.{ℕ, ◌≤◌, true, ◌≡◌, List, [], ◌∷◌, length}
 use Rattle.refusals.specs.{Verdict}
 use Rattle.refusals.proofs.Laws.{both_clear}
@@ -23,8 +24,8 @@ use Rattle.call_book.proofs.Bound.{table_is}
 
 module _ (own : List ℕ) (is_own : is_table own ≡ true) (given : Holding) (kept : Kept given) where
   either_kept : (v : Verdict) (imported : Imported) → Kept imported.holding → Kept (imported_if v given imported).holding
-  either_kept Verdict.Accepted imported k = k
-  either_kept (Verdict.Refused refusal) imported k = kept
+  either_kept (Ok _) imported k = k
+  either_kept (Err refusal) imported k = kept
 
   rows_keep : (holding : Holding) → Kept holding → (rows : List Row) → Kept (import_rows own given holding rows).holding
   unfolding import_rows
@@ -38,7 +39,7 @@ module _ (own : List ℕ) (is_own : is_table own ≡ true) (given : Holding) (ke
   unfolding import_onto
   import_keeps sheet = either_kept (sheet_verdict sheet) (import_rows own given given (sheet_rows sheet)) (rows_keep given kept (sheet_rows sheet))
 
-pub import_few : (statement table sheet : List ℕ) → import_verdict statement table sheet ≡ Verdict.Accepted → length (import_bytes statement table sheet) ≤ carried_width
+pub import_few : (statement table sheet : List ℕ) → import_verdict statement table sheet ≡ Ok tt → length (import_bytes statement table sheet) ≤ carried_width
 unfolding weighed_under import_bytes onto_bytes
 import_few statement table sheet clear =
     let parts = smaller_clear (table_verdict table) (read_of statement).verdict (both_clear _ _ clear).0 in

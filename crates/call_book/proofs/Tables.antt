@@ -1,4 +1,5 @@
 -- The table from call to call: its bytes are read back as its numbers, and a table longer by a column is again a table.
+use Rattle.std.specs.Prelude.{Ok}
 use Rattle.laws.proofs.{ℕ, ◌+◌, ◌*◌, ◌/◌, ◌%◌, ◌≤◌, ◌≡◌, refl, ap, ◌∙◌, true, List, [], ◌∷◌, arith, eq-eqb, le-ltb, length}
 use Rattle.refusals.specs.{weighed, weigh_all, smallest, Verdict}
 use Rattle.table.specs.{longest_table, is_table}
@@ -19,7 +20,7 @@ numbers_back (n ∷ own) =
     let whole : n % 256 + 256 * (n / 256) ≡ n = omega arith in
     ap (λ (k : ℕ). k ∷ numbers_of (table_bytes own)) whole ∙ ap (λ (l : List ℕ). n ∷ l) (numbers_back own)
 
-pub table-accepted : (own : List ℕ) → is_table own ≡ true → table_verdict (table_bytes own) ≡ Verdict.Accepted
+pub table-accepted : (own : List ℕ) → is_table own ≡ true → table_verdict (table_bytes own) ≡ Ok tt
 unfolding table_verdict decodable smallest weigh_all weighed
 table-accepted own e =
     let n = bytes_length own in
@@ -28,6 +29,6 @@ table-accepted own e =
     let few : length (table_bytes own) / 2 ≤ longest_table = omega (arith, n) in
     simp (eq-eqb (length (table_bytes own) % 2) 0 even, le-ltb longest_table (length (table_bytes own) / 2) few, numbers_back own, e)
 
-pub longer-table : (own : List ℕ) (areas : ℕ) (line : List ℕ) → growable own areas line ≡ Verdict.Accepted → is_table (longer_by own line) ≡ true
+pub longer-table : (own : List ℕ) (areas : ℕ) (line : List ℕ) → growable own areas line ≡ Ok tt → is_table (longer_by own line) ≡ true
 unfolding longer_by
 longer-table own areas line e = extended_table (begun own) (line_column line) (line_cells line) longest_table (grown_extensible own areas line e).1

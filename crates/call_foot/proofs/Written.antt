@@ -1,4 +1,5 @@
 -- The foot of a statement that is accepted is that of its holding, since a statement carries it; and it is short.
+use Rattle.std.specs.Prelude.{Ok}
 use Rattle.laws.proofs.{ℕ, ◌≤◌, true, ◌≡◌, sym, ap, ◌∙◌, List, length}
 use Rattle.refusals.specs.{Verdict}
 use Rattle.statement_carried.specs.{carried, limits}
@@ -11,7 +12,7 @@ use Rattle.book_foot.proofs.Feet.{foot_stands, foot_few}
 use Rattle.call_foot.specs.{foot_bytes}
 
 module _ (s : List ℕ) where
-  module _ (clear : (read_of s).verdict ≡ Verdict.Accepted) where
+  module _ (clear : (read_of s).verdict ≡ Ok tt) where
     footed : all_carried (read_of s).holding ≡ true
     footed = carried_footed _ (ap (λ (r : Read). carried r.holding) (read-holding limits s clear) ∙ (read-accepted limits s clear).carries)
 

@@ -10,7 +10,7 @@ ghost use Rattle.call_output.specs.{Gives};
 ghost use Rattle.call_foot.specs.{foot_bytes};
 
 use holding_look::Units;
-use refusals::{Refusal, Verdict, Written};
+use refusals::{Refusal, Written};
 
 // Writes F and units to the front of `out`: how many bytes, or why they are not written.
 fn write_foot(units: Units, out: &mut [u8]) -> Written
@@ -23,10 +23,10 @@ fn write_foot(units: Units, out: &mut [u8]) -> Written
     let mut unkept = [0u8; 1];
     let need = book_print::put_foot(&mut unkept, 0, received, surrendered, balance);
     if out.len() < need {
-        return Written::Refused(Refusal::OutputShort);
+        return Err(Refusal::OutputShort);
     }
     let count = book_print::put_foot(out, 0, received, surrendered, balance);
-    Written::Count(count)
+    Ok(count)
 }
 
 // Writes the F line of a statement to the front of `out`: how many bytes, or why nothing is written. The units come of one pass over the statement.
@@ -34,10 +34,6 @@ pub fn foot(statement: &[u8], out: &mut [u8]) -> Written
     ensures { Gives (read_of statement.now).verdict (foot_bytes statement.now) out.old result out.new }
 {
     let passed = statement_pass::pass(statement, 0);
-    let verdict = passed.verdict;
-    let units = passed.units;
-    match verdict {
-        Verdict::Refused(refusal) => Written::Refused(refusal),
-        Verdict::Accepted => write_foot(units, out),
-    }
+    passed.verdict?;
+    write_foot(passed.units, out)
 }

@@ -1,4 +1,5 @@
 -- What an import answers and leaves, from what its parts answered: the table and the statement decide first, and then the sheet.
+use Rattle.std.specs.Prelude.{Ok, Err}
 use Rattle.laws.proofs.{ℕ, ◌≡◌, sym, ap, ◌∙◌, Bool, true, false, not, List, arith}
 use Rattle.refusals.specs.{Refusal, Verdict, weighed, weigh_all, smallest, and_then, smaller, Written}
 use Rattle.refusals.proofs.Smaller.{from_less, smaller-first}
@@ -14,34 +15,34 @@ use Rattle.sheet_import.specs.{import_onto, onto_verdict, onto_bytes}
 use Rattle.call_import.specs.{weighed_under, under_verdict, import_verdict, import_bytes}
 
 -- the table's number is less than the statement's
-table-first : (statement : List ℕ) → smaller (Verdict.Refused Refusal.TableColumn) (read_of statement).verdict ≡ Verdict.Refused Refusal.TableColumn
+table-first : (statement : List ℕ) → smaller (Err Refusal.TableColumn) (read_of statement).verdict ≡ Err Refusal.TableColumn
 table-first statement =
     smaller-first Refusal.TableColumn (read_of statement).verdict (from_less 6 11 (read_of statement).verdict (omega arith) (read-from_eleven statement))
 
 -- ---- under the numbers of a table
 
 module _ (own statement sheet : List ℕ) (v : Verdict) (j : v ≡ judged own) where
-  six : (refusal : Refusal) → v ≡ Verdict.Refused refusal → refusal ≡ Refusal.TableColumn
+  six : (refusal : Refusal) → v ≡ Err refusal → refusal ≡ Refusal.TableColumn
   unfolding judged smallest weigh_all weighed
   six refusal e = go (not (is_table own)) (sym j ∙ e)
     where
-      go : (unkept : Bool) → weighed Verdict.Accepted unkept Refusal.TableColumn ≡ Verdict.Refused refusal → refusal ≡ Refusal.TableColumn
+      go : (unkept : Bool) → weighed (Ok tt) unkept Refusal.TableColumn ≡ Err refusal → refusal ≡ Refusal.TableColumn
       go true e = cc
       go false e = let z : ◌≡◌ {A = ℕ} 0 1 = cc in absurd (omega arith)
 
-  pub under-refused : (refusal : Refusal) → v ≡ Verdict.Refused refusal → under_verdict own statement sheet ≡ Verdict.Refused refusal
+  pub under-refused : (refusal : Refusal) → v ≡ Err refusal → under_verdict own statement sheet ≡ Err refusal
   unfolding weighed_under
   under-refused refusal e =
       rw (sym j ∙ e, six refusal e) (ap (λ (x : Verdict). and_then x (import_onto own (read_of statement).holding sheet).verdict) (table-first statement))
 
-  pub under_clear : v ≡ Verdict.Accepted → onto_verdict own statement sheet ≡ under_verdict own statement sheet
+  pub under_clear : v ≡ Ok tt → onto_verdict own statement sheet ≡ under_verdict own statement sheet
   unfolding weighed_under onto_verdict
   under_clear e = rw (sym j ∙ e)
 
 -- ---- under a table's bytes
 
 module _ (statement table sheet : List ℕ) where
-  pub table_decides : (refusal : Refusal) → table_verdict table ≡ Verdict.Refused refusal → import_verdict statement table sheet ≡ Verdict.Refused refusal
+  pub table_decides : (refusal : Refusal) → table_verdict table ≡ Err refusal → import_verdict statement table sheet ≡ Err refusal
   unfolding weighed_under
   table_decides refusal e =
       let six = table_six table refusal e in

@@ -1,4 +1,5 @@
 -- A table extended in place answers by its verdict, and where nothing refuses it the longer one stands in front of the numbers.
+use Rattle.std.specs.Prelude.{Ok, Err}
 use Rattle.laws.proofs.{ℕ, ◌-◌, ◌≤◌, ◌≡◌, sym, ap, ◌∙◌, List, ◌++◌, arith, length, take, drop, length-take}
 use lib.Seq.{take_at}
 use Rattle.refusals.specs.{Refusal, Verdict, Written, written, buffer_after}
@@ -17,14 +18,14 @@ module _ (numbers : List ℕ) (long : length numbers ≡ longest_table) (count c
   verdict room = extensible table column cells room
 
   module _ (g : (answer ≡ written (verdict (length numbers)) more) × (after ≡ buffer_after (verdict (length numbers)) more numbers)) where
-    pub not_extended : (r : Refusal) → answer ≡ Written.Refused r → verdict longest_table ≡ Verdict.Refused r
+    pub not_extended : (r : Refusal) → answer ≡ Err r → verdict longest_table ≡ Err r
     not_extended r e = sym (ap verdict long) ∙ was_turned (verdict (length numbers)) more r (sym g.0 ∙ e)
 
-    module _ (n : ℕ) (e : answer ≡ Written.Count n) where
-      was : (verdict (length numbers) ≡ Verdict.Accepted) × (n ≡ length more)
+    module _ (n : ℕ) (e : answer ≡ Ok n) where
+      was : (verdict (length numbers) ≡ Ok tt) × (n ≡ length more)
       was = was_clear (verdict (length numbers)) more n (sym g.0 ∙ e)
 
-      pub extended : verdict longest_table ≡ Verdict.Accepted
+      pub extended : verdict longest_table ≡ Ok tt
       extended = sym (ap verdict long) ∙ was.0
 
       after_as : after ≡ more ++ drop (length more) numbers

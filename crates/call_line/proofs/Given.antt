@@ -1,4 +1,5 @@
 -- What a call answers and leaves, from what its parts answered: a refused line decides, and else the act or the cells, with the table that they judged.
+use Rattle.std.specs.Prelude.{Ok, Err}
 use Rattle.laws.proofs.{ℕ, ◌≤◌, ◌≡◌, refl, sym, ap, ◌∙◌, Bool, true, false, List, arith, length, leb}
 use Rattle.refusals.specs.{Refusal, Verdict, number_of, weighed, smaller, Written, written, and_then}
 use Rattle.refusals.proofs.Smaller.{From, second_least}
@@ -24,14 +25,14 @@ use Rattle.call_step.specs.{step_outcome, step_verdict, step_bytes}
 use Rattle.call_answer.proofs.TableRead.{Lent}
 
 -- a statement that is refused has a greater number than what is no table
-table-first : (v : Verdict) → From 11 v → smaller v (Verdict.Refused Refusal.TableColumn) ≡ Verdict.Refused Refusal.TableColumn
-table-first Verdict.Accepted f = refl
-table-first (Verdict.Refused r) f =
-    let h : 11 ≤ number_of r = f in sym (second_least (Verdict.Refused r) (Verdict.Refused Refusal.TableColumn) r Refusal.TableColumn refl refl (omega arith))
+table-first : (v : Verdict) → From 11 v → smaller v (Err Refusal.TableColumn) ≡ Err Refusal.TableColumn
+table-first (Ok _) f = refl
+table-first (Err r) f =
+    let h : 11 ≤ number_of r = f in sym (second_least (Err r) (Err Refusal.TableColumn) r Refusal.TableColumn refl refl (omega arith))
 
 module _ (statement table line out : List ℕ) where
-  pub call_refused : (r : Refusal) → call_verdict statement table line ≡ Verdict.Refused r
-      → (Written.Refused r ≡ written (call_weighed statement table line (length out)) (call_bytes statement table line)) × (out ≡ call_output statement table line out)
+  pub call_refused : (r : Refusal) → call_verdict statement table line ≡ Err r
+      → (Err r ≡ written (call_weighed statement table line (length out)) (call_bytes statement table line)) × (out ≡ call_output statement table line out)
   unfolding call_weighed call_output
   call_refused r e =
       let g = gives_refused (call_verdict statement table line) (call_bytes statement table line) out r e in (g.told, g.left)
@@ -42,7 +43,7 @@ module _ (statement table line out : List ℕ) where
   call_by answer after g = (g.told, g.left)
 
   -- an act on an area, under the table that was read
-  pub call_step : (on : AreaAct) (own : List ℕ) (answer : Written) (after : List ℕ) → entry_of line ≡ Parsed.Taken (Entry.On on) → Lent table own
+  pub call_step : (on : AreaAct) (own : List ℕ) (answer : Written) (after : List ℕ) → entry_of line ≡ Ok (Entry.On on) → Lent table own
       → Gives (step_verdict own statement on) (step_bytes own statement on) out answer after
       → Gives (call_verdict statement table line) (call_bytes statement table line) out answer after
   unfolding step_verdict step_bytes step_outcome entry_taken entry_bytes
@@ -55,7 +56,7 @@ module _ (statement table line out : List ℕ) where
       (ap (λ (l : List ℕ). step_bytes l statement on) lent.same ∙ sym (entry_writes statement table line (Entry.On on) read)) given
 
   -- a T line whose cells were read
-  module _ (clear : as_column line ≡ Verdict.Accepted) where
+  module _ (clear : as_column line ≡ Ok tt) where
     abbrev entered : Entry
     entered = Entry.Column (column_of (fields_of line))
 
@@ -69,7 +70,7 @@ module _ (statement table line out : List ℕ) where
         ∙ sym (answered-verdict (growable own (read_of statement).holding.count line) (column_taken (read_of statement).holding.count) refl))
 
     no_table_decides : (own : List ℕ) → is_table own ≡ false
-        → cells_verdict own statement (line_column line) (line_cells line) ≡ Verdict.Refused Refusal.TableColumn
+        → cells_verdict own statement (line_column line) (line_cells line) ≡ Err Refusal.TableColumn
     unfolding cells_verdict weighed
     no_table_decides own e = rw (no_table_extends (line_column line) (line_cells line) longest_table own e) (table-first (read_of statement).verdict (read-from_eleven statement))
 

@@ -10,8 +10,8 @@ ghost use Rattle.call_output.specs.{table_bytes, Gives};
 ghost use Rattle.call_column.specs.{cells_verdict};
 ghost use Rattle.call_answer.specs.{call_verdict, call_bytes, call_weighed, call_output};
 
-use line_entry::{Entry, Parsed};
-use refusals::{Verdict, Written};
+use line_entry::Entry;
+use refusals::Written;
 use table::LONGEST_TABLE;
 
 // The most cells of a column.
@@ -27,14 +27,9 @@ fn write_longer(
 ) -> Written
     ensures { Gives (extensible (begun (take count numbers.old)) column cells.now longest_table) (table_bytes (longer (begun (take count numbers.old)) column cells.now)) out.old result out.new }
 {
-    let answer = table_extend::extend(numbers, count, column, cells);
-    match answer {
-        Written::Refused(refusal) => Written::Refused(refusal),
-        Written::Count(many) => {
-            let grown = &numbers[..];
-            call_output::write_table(&grown[0..many], out)
-        }
-    }
+    let many = table_extend::extend(numbers, count, column, cells)?;
+    let grown = &numbers[..];
+    call_output::write_table(&grown[0..many], out)
 }
 
 // The same, where the statement and the areas that stand refuse nothing.
@@ -48,11 +43,8 @@ fn take_cells(
 ) -> Written
     ensures { Gives (cells_verdict (take count numbers.old) statement.now column cells.now) (table_bytes (longer (begun (take count numbers.old)) column cells.now)) out.old result out.new }
 {
-    let verdict = call_column::judge_cells(statement, numbers, count, column, cells);
-    match verdict {
-        Verdict::Refused(refusal) => Written::Refused(refusal),
-        Verdict::Accepted => write_longer(numbers, count, column, cells, out),
-    }
+    call_column::judge_cells(statement, numbers, count, column, cells)?;
+    write_longer(numbers, count, column, cells, out)
 }
 
 // A T line: the table longer by its column, in the room into which it is read. The line is judged where its cells are read, and the table where it is
@@ -63,22 +55,17 @@ fn take_column(statement: &[u8], table: &[u8], line: &[u8], out: &mut [u8]) -> W
 {
     let mut cells = [0u16; MOST_CELLS];
     let read = line::read_column(line, &mut cells);
-    let line_verdict = read.verdict;
-    let column = read.column;
-    let many = read.count;
-    match line_verdict {
-        Verdict::Refused(refusal) => Written::Refused(refusal),
-        Verdict::Accepted => {
-            let mut numbers = [0u16; LONGEST_TABLE];
-            let own = table_bytes::decode(table, &mut numbers);
-            match own {
-                Written::Refused(refusal) => Written::Refused(refusal),
-                Written::Count(count) => {
-                    take_cells(statement, &mut numbers, count, column, &cells[0..many], out)
-                }
-            }
-        }
-    }
+    read.verdict?;
+    let mut numbers = [0u16; LONGEST_TABLE];
+    let count = table_bytes::decode(table, &mut numbers)?;
+    take_cells(
+        statement,
+        &mut numbers,
+        count,
+        read.column,
+        &cells[0..read.count],
+        out,
+    )
 }
 
 // Takes a line by a statement and a table, and writes to the front of `out` what they become: how many bytes, or why nothing is written. Room for a
@@ -90,12 +77,8 @@ pub fn call(statement: &[u8], table: &[u8], line: &[u8], out: &mut [u8]) -> Writ
     if line::is_column(line) {
         return take_column(statement, table, line, out);
     }
-    let parsed = line::parse(line);
-    let Parsed::Taken(entry) = parsed else {
-        return line_entry::refused_by(parsed);
-    };
     // No other line is read as a column.
-    let Entry::On(on) = entry else {
+    let Entry::On(on) = line::parse(line)? else {
         return take_column(statement, table, line, out);
     };
     if table.len() == 0 {
@@ -103,9 +86,6 @@ pub fn call(statement: &[u8], table: &[u8], line: &[u8], out: &mut [u8]) -> Writ
         return call_step::take_step(statement, &none[0..0], on, out);
     }
     let mut numbers = [0u16; LONGEST_TABLE];
-    let own = table_bytes::decode(table, &mut numbers);
-    match own {
-        Written::Refused(refusal) => Written::Refused(refusal),
-        Written::Count(count) => call_step::take_step(statement, &numbers[0..count], on, out),
-    }
+    let count = table_bytes::decode(table, &mut numbers)?;
+    call_step::take_step(statement, &numbers[0..count], on, out)
 }

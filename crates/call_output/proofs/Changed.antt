@@ -1,7 +1,8 @@
 -- The bytes that came are written as they are: besides them, a changed statement and its report are as long as with none of them.
+use Rattle.std.specs.Prelude.{Ok, Err}
 use Rattle.laws.proofs.{ℕ, ◌+◌, ◌-◌, ◌≤◌, ◌≡◌, sym, ◌∙◌, true, false, List, [], arith, ⊎_elim, le-leb, lt-leb, leb-true, leb-false, leb, length, length-append}
 use Rattle.laws.proofs.Order.{below_or_not}
-use Rattle.refusals.specs.{written, buffer_after, Refusal, Written}
+use Rattle.refusals.specs.{written, buffer_after, Refusal}
 use Rattle.holding.specs.{Area}
 use Rattle.step_outcome.specs.{Report}
 use Rattle.statement_format.specs.{joined}
@@ -29,7 +30,7 @@ module _ (count : ℕ) (before : List ℕ) (area : Area) (behind : List ℕ) (re
 
   module _ {out after : List ℕ} {n : ℕ} (put : Put (changed_width + length before + length behind) out 0 bytes after n) where
     pub unmeasured : leb (changed_width + length before + length behind) (length out) ≡ true
-        → (Written.Count n ≡ written (writable bytes (length out)) bytes) × (after ≡ buffer_after (writable bytes (length out)) bytes out)
+        → (Ok n ≡ written (writable bytes (length out)) bytes) × (after ≡ buffer_after (writable bytes (length out)) bytes out)
     unmeasured e = enough_room bytes out after n (omega (arith, put.few, leb-true (changed_width + length before + length behind) (length out) e)) put.wrote
 
   -- measured with none of the bytes that came
@@ -39,11 +40,11 @@ module _ (count : ℕ) (before : List ℕ) (area : Area) (behind : List ℕ) (re
 
     pub fits : (out after : List ℕ) (n : ℕ) → Put (changed_width + length before + length behind) out 0 bytes after n
         → leb (width + length before + length behind) (length out) ≡ true
-        → (Written.Count n ≡ written (writable bytes (length out)) bytes) × (after ≡ buffer_after (writable bytes (length out)) bytes out)
+        → (Ok n ≡ written (writable bytes (length out)) bytes) × (after ≡ buffer_after (writable bytes (length out)) bytes out)
     fits out after n put e =
         enough_room bytes out after n
         (omega (arith, width_is, changed-length, leb-true (width + length before + length behind) (length out) e)) put.wrote
 
     pub short : (out : List ℕ) → leb (width + length before + length behind) (length out) ≡ false
-        → (Written.Refused Refusal.OutputShort ≡ written (writable bytes (length out)) bytes) × (out ≡ buffer_after (writable bytes (length out)) bytes out)
+        → (Err Refusal.OutputShort ≡ written (writable bytes (length out)) bytes) × (out ≡ buffer_after (writable bytes (length out)) bytes out)
     short out e = no_room bytes out (omega (arith, width_is, changed-length, leb-false (width + length before + length behind) (length out) e))

@@ -1,7 +1,8 @@
 -- The bytes of a table, two a turn as the loop goes.
+use Rattle.std.specs.Prelude.{Ok, Err}
 use Rattle.laws.proofs.{ℕ, suc, ◌+◌, ◌*◌, ◌/◌, ◌%◌, ◌≤◌, ◌<◌, ◌≡◌, refl, sym, ap, ◌∙◌, List, [], ◌∷◌, add-one, arith, lt-ltb, le-ltb, length, get_or, set, drop, drop_of_length-le, drop-cons, sets}
 use Rattle.laws.proofs.Stores.{stored-in_front}
-use Rattle.refusals.specs.{weighed, weigh_all, smallest, written, buffer_after, Refusal, Written}
+use Rattle.refusals.specs.{weighed, weigh_all, smallest, written, buffer_after, Refusal}
 use Rattle.refusals.proofs.Answers.{when_turned, when_clear}
 use Rattle.statement_write.specs.{writable}
 use Rattle.call_output.specs.{table_bytes}
@@ -28,7 +29,7 @@ module _ (numbers : List ℕ) (i : ℕ) where
 -- by the room for them
 module _ (numbers out : List ℕ) where
   pub no_room : length out / 2 < length numbers
-      → (Written.Refused Refusal.OutputShort ≡ written (writable (table_bytes numbers) (length out)) (table_bytes numbers))
+      → (Err Refusal.OutputShort ≡ written (writable (table_bytes numbers) (length out)) (table_bytes numbers))
       × (out ≡ buffer_after (writable (table_bytes numbers) (length out)) (table_bytes numbers) out)
   unfolding writable smallest weigh_all weighed
   no_room h =
@@ -36,7 +37,7 @@ module _ (numbers out : List ℕ) where
       (simp (lt-ltb (length out) (length (table_bytes numbers)) (omega (arith, bytes_length numbers))))
 
   pub enough_room : length numbers ≤ length out / 2 → (after : List ℕ) → after ≡ sets out 0 (table_bytes numbers)
-      → (Written.Count (2 * length numbers) ≡ written (writable (table_bytes numbers) (length out)) (table_bytes numbers))
+      → (Ok (2 * length numbers) ≡ written (writable (table_bytes numbers) (length out)) (table_bytes numbers))
       × (after ≡ buffer_after (writable (table_bytes numbers) (length out)) (table_bytes numbers) out)
   unfolding writable smallest weigh_all weighed
   enough_room h after e =

@@ -18,12 +18,10 @@ fn put_table(numbers: &[u16], out: &mut [u8])
     requires { 2 * length numbers.now ≤ length out.old }
     ensures { out.new ≡ sets out.old 0 (table_bytes numbers.now) }
 {
-    let mut i = 0;
-    while i < numbers.len() {
+    for i in 0..numbers.len() {
         let number = numbers[i];
         out[2 * i] = (number % 256) as u8;
         out[2 * i + 1] = (number / 256) as u8;
-        i += 1;
     }
 }
 
@@ -34,10 +32,10 @@ pub fn write_table(numbers: &[u16], out: &mut [u8]) -> Written
 {
     let count = numbers.len();
     if out.len() / 2 < count {
-        return Written::Refused(Refusal::OutputShort);
+        return Err(Refusal::OutputShort);
     }
     put_table(numbers, out);
-    Written::Count(2 * count)
+    Ok(2 * count)
 }
 
 // Puts a statement with one area changed, and a report behind it: the first line, bytes as they came, the area, bytes as they came. The answer is
@@ -95,7 +93,7 @@ pub fn write_changed(
 {
     if has_room(out.len(), CHANGED_WIDTH, before.len(), behind.len()) {
         let length = put_changed(out, count, before, area, behind, report);
-        return Written::Count(length);
+        return Ok(length);
     }
     let mut unkept = [0u8; 1];
     let written = put_changed(
@@ -108,7 +106,7 @@ pub fn write_changed(
     );
     if has_room(out.len(), written, before.len(), behind.len()) {
         let length = put_changed(out, count, before, area, behind, report);
-        return Written::Count(length);
+        return Ok(length);
     }
-    Written::Refused(Refusal::OutputShort)
+    Err(Refusal::OutputShort)
 }

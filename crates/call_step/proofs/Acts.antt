@@ -1,5 +1,6 @@
 -- The table judged, the pass over the statement and the step on the area looked up give the verdict of the act, and the bytes that are written are the
 -- statement after it.
+use Rattle.std.specs.Prelude.{Ok}
 use Rattle.laws.proofs.{ℕ, ◌-◌, ◌≤◌, ◌≡◌, refl, sym, ap, ◌∙◌, List, ◌++◌, arith, length, take, drop, length-drop, take_all}
 use Rattle.refusals.specs.{Verdict, smaller}
 use Rattle.refusals.proofs.Smaller.{smaller_clear}
@@ -40,11 +41,11 @@ module _ (own statement : List ℕ) (on : AreaAct) (passed : Passed) (outcome : 
       (s ∙ ap (λ (x : Verdict). smaller x outcome.verdict) verdict_is
       ∙ ap (λ (x : Outcome). smaller (read_of statement).verdict x.verdict) outcome_is)
 
-  module _ (e : v ≡ Verdict.Accepted) where
-    both_clear : (passed.verdict ≡ Verdict.Accepted) × (outcome.verdict ≡ Verdict.Accepted)
+  module _ (e : v ≡ Ok tt) where
+    both_clear : (passed.verdict ≡ Ok tt) × (outcome.verdict ≡ Ok tt)
     both_clear = smaller_clear passed.verdict outcome.verdict (sym s ∙ (smaller_clear table stated (sym w ∙ e)).1)
 
-    is_read : (read_of statement).verdict ≡ Verdict.Accepted
+    is_read : (read_of statement).verdict ≡ Ok tt
     is_read = sym verdict_is ∙ both_clear.0
 
     -- the places of the area lie in the bytes, and in order

@@ -1,9 +1,10 @@
 -- The bytes that a step leaves as they came. Bytes that are read are the first line and the texts of the areas, one behind the other; so the statement
 -- after a step is its first line, the bytes before the area that it names, that area's text, and the bytes behind it.
+use Rattle.std.specs.Prelude.{Ok, Some, None, Option}
 use Rattle.laws.proofs.{ℕ, suc, ◌+◌, ◌-◌, ◌≤◌, ◌<◌, ◌≡◌, refl, sym, ap, ◌∙◌, List, [], ◌∷◌, ◌++◌, append_assoc, append-nil, arith, add-one, ◌⊎◌, ⊎_elim, length, take, drop, set, drop_of_length-le}
 use lib.Seq.{take-set-lt, take-suc-set, set-append_seam}
 use Rattle.refusals.specs.{Verdict}
-use Rattle.holding.specs.{Area, Holding, Found, most_areas, areas_of, find_area}
+use Rattle.holding.specs.{Area, Holding, most_areas, areas_of, find_area}
 use Rattle.holding.proofs.Stands.{stands}
 use Rattle.holding_look.specs.{looked_up}
 use Rattle.step_outcome.specs.{Outcome, placed}
@@ -21,7 +22,7 @@ use Rattle.statement.proofs.Accepted.{read-accepted, read-holding}
 use Rattle.call_output.specs.{changed_text}
 use Rattle.call_step.proofs.Placed.{Moves, Opens}
 
-module _ (s : List ℕ) (clear : (read_of s).verdict ≡ Verdict.Accepted) where
+module _ (s : List ℕ) (clear : (read_of s).verdict ≡ Ok tt) where
   abbrev carries : Holding
   carries = (read_of s).holding
 
@@ -108,20 +109,20 @@ module _ (s : List ℕ) (clear : (read_of s).verdict ≡ Verdict.Accepted) where
       ∙ ap (λ (l : List ℕ). take (length s - body s) (drop (body s) s) ++ (area_text area ++ l)) (sym none))
 
   module _ (number : ℕ) where
-    found_inside : (k : ℕ) → find_area carries number ≡ Found.At k → k < areas s
+    found_inside : (k : ℕ) → find_area carries number ≡ Some k → k < areas s
     unfolding find_area
     found_inside k e =
         let there = stands (λ (a : Area). a.number) number 0 k (areas_of carries) e in
         omega (arith, there.there, there.inside, ap length standing, items_many (area_in s) (after_area s) (areas s) (body s))
 
     -- the places of the area that was looked up are in the bytes, and in order
-    pub places_in : (found : Found) → found ≡ find_area carries number → (body s ≤ start_of s found) × (start_of s found ≤ length s) × (end_of s found ≤ length s)
+    pub places_in : (found : Option ℕ) → found ≡ find_area carries number → (body s ≤ start_of s found) × (start_of s found ≤ length s) × (end_of s found ≤ length s)
     unfolding start_of end_of
-    places_in (Found.At k) e =
+    places_in (Some k) e =
         let h = found_inside k (sym e) in
         let here = place_order k (omega arith) in
         (here.0, here.1, (place_order (k + 1) (omega arith)).1)
-    places_in Found.Nowhere e = (omega (arith, ended, place_order (areas s) (omega arith)), omega arith, omega arith)
+    places_in None e = (omega (arith, ended, place_order (areas s) (omega arith)), omega arith, omega arith)
 
     pub changed-statement : (outcome : Outcome) → Moves (looked_up carries number) outcome ⊎ Opens (looked_up carries number) outcome
         → statement_of (placed carries outcome)
@@ -132,8 +133,8 @@ module _ (s : List ℕ) (clear : (read_of s).verdict ≡ Verdict.Accepted) where
         (λ m.
         sym (ap statement_of (placed_here carries outcome m.at m.place))
         ∙ changed_at m.at (found_inside m.at m.found) outcome.area outcome.count m.count
-        ∙ ap (λ (f : Found). changed_text outcome.count (take (start_of s f - body s) (drop (body s) s)) outcome.area (drop (end_of s f) s)) (sym m.found))
+        ∙ ap (λ (f : Option ℕ). changed_text outcome.count (take (start_of s f - body s) (drop (body s) s)) outcome.area (drop (end_of s f) s)) (sym m.found))
         (λ o.
         sym (ap statement_of (placed_here carries outcome carries.count o.place))
         ∙ opened-behind outcome.area (omega (arith, many, o.room)) outcome.count carries.count o.count refl
-        ∙ ap (λ (f : Found). changed_text outcome.count (take (start_of s f - body s) (drop (body s) s)) outcome.area (drop (end_of s f) s)) (sym o.found))
+        ∙ ap (λ (f : Option ℕ). changed_text outcome.count (take (start_of s f - body s) (drop (body s) s)) outcome.area (drop (end_of s f) s)) (sym o.found))

@@ -1,9 +1,10 @@
 -- What an accepted act does with the areas: it changes the one that was looked up, or it opens one behind them all.
+use Rattle.std.specs.Prelude.{Ok, Some, None, Option}
 use Rattle.laws.proofs.{ℕ, ◌+◌, ◌<◌, ◌≡◌, refl, ap, ◌∙◌, true, false, List, ◌⊎◌, inl, inr, arith, not-false, leb-false}
 use Rattle.refusals.specs.{Verdict, Case, smallest}
 use Rattle.refusals.proofs.Laws.{RuledOut, ruled_out}
 use Rattle.line_entry.specs.{Act}
-use Rattle.holding.specs.{Area, Found, most_areas}
+use Rattle.holding.specs.{Area, most_areas}
 use Rattle.holding_look.specs.{Looked, known}
 use Rattle.step_outcome.specs.{Outcome, Report, accepted, answered, area_cases}
 use Rattle.step_open.specs.{opened, open_cases}
@@ -17,29 +18,29 @@ use Rattle.step.specs.{acted}
 
 pub record Moves (looked : Looked) (outcome : Outcome) : Type 0 where
   pub at : ℕ
-  pub found : looked.found ≡ Found.At at
-  pub place : outcome.place ≡ Found.At at
+  pub found : looked.found ≡ Some at
+  pub place : outcome.place ≡ Some at
   pub count : outcome.count ≡ looked.count
 
 pub record Opens (looked : Looked) (outcome : Outcome) : Type 0 where
-  pub found : looked.found ≡ Found.Nowhere
+  pub found : looked.found ≡ None
   pub room : looked.count < most_areas
-  pub place : outcome.place ≡ Found.At looked.count
+  pub place : outcome.place ≡ Some looked.count
   pub count : outcome.count ≡ looked.count + 1
 
 module _ (looked : Looked) where
-  stands_at : (found : Found) → known found ≡ true → (i : ℕ) × (found ≡ Found.At i)
-  stands_at (Found.At i) e = (i, refl)
-  stands_at Found.Nowhere e = absurd (let z : ◌≡◌ {A = ℕ} 0 1 = cc in omega arith)
+  stands_at : (found : Option ℕ) → known found ≡ true → (i : ℕ) × (found ≡ Some i)
+  stands_at (Some i) e = (i, refl)
+  stands_at None e = absurd (let z : ◌≡◌ {A = ℕ} 0 1 = cc in omega arith)
 
-  stands_nowhere : (found : Found) → known found ≡ false → found ≡ Found.Nowhere
-  stands_nowhere (Found.At i) e = absurd (let z : ◌≡◌ {A = ℕ} 0 1 = cc in omega arith)
-  stands_nowhere Found.Nowhere e = refl
+  stands_nowhere : (found : Option ℕ) → known found ≡ false → found ≡ None
+  stands_nowhere (Some i) e = absurd (let z : ◌≡◌ {A = ℕ} 0 1 = cc in omega arith)
+  stands_nowhere None e = refl
 
   -- a change of the area looked up, where a clear table of cases says that it stands
   moves : (cases : List Case) (report : Report) (after : Area) → (RuledOut cases → known looked.found ≡ true)
       → let outcome = answered (smallest cases) (accepted report looked.found looked.count after) in
-      outcome.verdict ≡ Verdict.Accepted → Moves looked outcome
+      outcome.verdict ≡ Ok tt → Moves looked outcome
   moves cases report after stands e =
       let outcome = accepted report looked.found looked.count after in
       let clear = answered_clear (smallest cases) outcome e in
@@ -51,7 +52,7 @@ module _ (looked : Looked) where
         count = ap (λ (x : Outcome). x.count) clear.1;
       }
 
-  opens : (opening : ℕ) → (opened looked opening).verdict ≡ Verdict.Accepted → Opens looked (opened looked opening)
+  opens : (opening : ℕ) → (opened looked opening).verdict ≡ Ok tt → Opens looked (opened looked opening)
   unfolding opened open_cases
   opens opening e =
       let clear = answered_clear (smallest (open_cases looked opening)) _ e in
@@ -63,7 +64,7 @@ module _ (looked : Looked) where
         count = ap (λ (x : Outcome). x.count) clear.1;
       }
 
-pub acted_places : (own default : List ℕ) (looked : Looked) (act : Act) → let outcome = acted own default looked act in outcome.verdict ≡ Verdict.Accepted
+pub acted_places : (own default : List ℕ) (looked : Looked) (act : Act) → let outcome = acted own default looked act in outcome.verdict ≡ Ok tt
     → Moves looked outcome ⊎ Opens looked outcome
 unfolding added add_cases cleared clear_cases planted plant_cases filed file_cases withdrawn withdraw_cases area_cases
 acted_places own default looked (Act.Open opening) e = inr (opens looked opening e)

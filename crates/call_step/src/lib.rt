@@ -9,7 +9,7 @@ ghost use Rattle.call_output.specs.{Gives};
 ghost use Rattle.call_step.specs.{step_verdict, step_bytes};
 
 use line_entry::AreaAct;
-use refusals::{Verdict, Written};
+use refusals::Written;
 
 // Takes an act under a default table that gives what Schedule 6 gives.
 fn take_under<'a>(
@@ -30,26 +30,15 @@ fn take_under<'a>(
     let step_verdict = outcome.verdict;
     let stated_verdict = refusals::least(read_verdict, step_verdict);
     let table_verdict = table::judge(own);
-    let v = refusals::least(table_verdict, stated_verdict);
-    match v {
-        Verdict::Refused(refusal) => Written::Refused(refusal),
-        Verdict::Accepted => {
-            let body = passed.body;
-            let from = passed.from;
-            let to = passed.to;
-            let count = outcome.count;
-            let area = outcome.area;
-            let report = outcome.report;
-            call_output::write_changed(
-                count,
-                &statement[body..from],
-                area,
-                &statement[to..],
-                report,
-                out,
-            )
-        }
-    }
+    refusals::least(table_verdict, stated_verdict)?;
+    call_output::write_changed(
+        outcome.count,
+        &statement[passed.body..passed.from],
+        outcome.area,
+        &statement[passed.to..],
+        outcome.report,
+        out,
+    )
 }
 
 // Takes an act by a statement and a participant's table, which is judged, and writes to the front of `out` the statement after it, with its report: how

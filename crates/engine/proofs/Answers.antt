@@ -1,4 +1,5 @@
 -- What a call wrote, with its sign, is what it answers; and it is small: a call that is clear has few bytes, and a refusal's number has two digits.
+use Rattle.std.specs.Prelude.{Ok, Err}
 use Rattle.laws.proofs.{ℕ, ◌<◌, ◌^◌, ◌≡◌, refl, sym, subst, ap, ◌∙◌, List, arith, ltb, length}
 use lib.IntN.{ℤ}
 use mir.Syntax.{w64}
@@ -12,21 +13,21 @@ use Rattle.engine.proofs.Signed.{minus_read, plus-read}
 
 signed-written : (v : Verdict) (bytes : List ℕ) → signed (written v bytes) ≡ answer_of v bytes
 unfolding written
-signed-written Verdict.Accepted bytes = refl
-signed-written (Verdict.Refused refusal) bytes = refl
+signed-written (Ok _) bytes = refl
+signed-written (Err refusal) bytes = refl
 
-written-fits : (v : Verdict) (bytes : List ℕ) → (v ≡ Verdict.Accepted → length bytes < 2 ^ 63) → Fitting (written v bytes)
+written-fits : (v : Verdict) (bytes : List ℕ) → (v ≡ Ok tt → length bytes < 2 ^ 63) → Fitting (written v bytes)
 unfolding written
-written-fits Verdict.Accepted bytes few = few refl
-written-fits (Verdict.Refused refusal) bytes few = tt
+written-fits (Ok _) bytes few = few refl
+written-fits (Err refusal) bytes few = tt
 
 -- read back as it was answered
 pub signed-read : (answer : Written) → Fitting answer → to_z w64 (of_z w64 (signed answer)) ≡ signed answer
-signed-read (Written.Count count) fits = plus-read fits
-signed-read (Written.Refused refusal) fits = let h : number_of refusal < 2 ^ 63 = omega (arith, (number_range refusal).1) in minus_read h
+signed-read (Ok count) fits = plus-read fits
+signed-read (Err refusal) fits = let h : number_of refusal < 2 ^ 63 = omega (arith, (number_range refusal).1) in minus_read h
 
 -- under a verdict, with these bytes to write, of which there are few where it is clear
-module _ (verdict : Verdict) (bytes : List ℕ) (room : ℕ) (few : verdict ≡ Verdict.Accepted → length bytes < 2 ^ 63) (answer : Written)
+module _ (verdict : Verdict) (bytes : List ℕ) (room : ℕ) (few : verdict ≡ Ok tt → length bytes < 2 ^ 63) (answer : Written)
     (e : answer ≡ written (with_room verdict bytes room) bytes) where
   pub answer_fits : Fitting answer
   unfolding with_room

@@ -16,8 +16,8 @@ fn answered(answer: Written) -> i64
     ensures { result ≡ signed answer }
 {
     match answer {
-        Written::Refused(refusal) => -(refusals::number(refusal) as i64),
-        Written::Count(count) => count as i64,
+        Err(refusal) => -(u8::from(refusal) as i64),
+        Ok(count) => count as i64,
     }
 }
 

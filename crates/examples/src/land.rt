@@ -5,22 +5,21 @@ ghost use Rattle.land_trees.specs.{hectare_of};
 use crate::print::{say, say_forest, say_number, say_refused};
 use forest::{Forest, Region};
 use land_clearings::Clearing;
-use land_deforestation::Emissions;
 use land_groups::Group;
 use land_parcels::Parcel;
 use land_trees::Hectare;
+use refusals::Refusal;
 use std::io;
 
 // The emissions of parcels, under a name for them.
-fn emitted(rt: &impl Print, name: &[u8], parcels: [Parcel; 64], count: usize) -> io::Result<()> {
+fn emitted(rt: &impl Print, name: &[u8], parcels: &[Parcel]) -> io::Result<()> {
     say(rt, name)?;
-    let emissions = land_deforestation::calculate(parcels, count);
-    match emissions {
-        Emissions::Tonnes(tonnes) => {
+    match land_deforestation::calculate(parcels) {
+        Ok(tonnes) => {
             say_number(rt, b": ", tonnes)?;
             say(rt, b" t")?;
         }
-        Emissions::Turned(refusal) => say_refused(rt, refusal)?,
+        Err(refusal) => say_refused(rt, refusal)?,
     }
     say(rt, b"\n")?;
     Ok(())
@@ -47,22 +46,23 @@ fn stand(hectares: u32, forest: Forest, planted: u16) -> Parcel {
 fn single_stands(rt: &impl Print) -> io::Result<()> {
     say(rt, b"\nPre-1990 land, a single stand:\n")?;
     let single = stand(883400, Forest::DouglasFir, 1979);
-    emitted(rt, b"88.34 ha of Douglas fir, 34 years", [single; 64], 1)?;
+    emitted(rt, b"88.34 ha of Douglas fir, 34 years", &[single])?;
     let hectare = stand(10000, Forest::DouglasFir, 1985);
-    emitted(rt, b"1 ha of Douglas fir, 28 years", [hectare; 64], 1)?;
+    emitted(rt, b"1 ha of Douglas fir, 28 years", &[hectare])?;
     Ok(())
 }
 
 fn three_stands(rt: &impl Print) -> io::Result<()> {
     say(rt, b"\nThree stands:\n")?;
-    let mut stands = [stand(1001300, Forest::Radiata(Region::Auckland), 1985); 64];
-    stands[1] = stand(555200, Forest::DouglasFir, 1985);
-    stands[2] = stand(300400, Forest::ExoticHardwoods, 2002);
+    let stands = [
+        stand(1001300, Forest::Radiata(Region::Auckland), 1985),
+        stand(555200, Forest::DouglasFir, 1985),
+        stand(300400, Forest::ExoticHardwoods, 2002),
+    ];
     emitted(
         rt,
         b"100.13 ha of radiata P1 and 55.52 ha of Douglas fir, 28 years, and 30.04 ha of exotic hardwoods, 11 years",
-        stands,
-        3,
+        &stands,
     )?;
     Ok(())
 }
@@ -88,14 +88,14 @@ fn replanted(cleared: u16) -> Parcel {
 fn replanted_stands(rt: &impl Print) -> io::Result<()> {
     say(rt, b"\nDouglas fir after radiata P1 of 40 years:\n")?;
     let young = replanted(2012);
-    emitted(rt, b"1 ha, 4 years", [young; 64], 1)?;
+    emitted(rt, b"1 ha, 4 years", &[young])?;
     let old = replanted(2017);
-    emitted(rt, b"1 ha, 9 years", [old; 64], 1)?;
+    emitted(rt, b"1 ha, 9 years", &[old])?;
     Ok(())
 }
 
 // Three tree groups, lent as a list.
-fn determined(groups: [Group; 3]) -> Hectare
+fn determined(groups: [Group; 3]) -> Result<Hectare, Refusal>
     ensures { result ≡ hectare_of groups }
 {
     land_trees::determine(&groups)
@@ -104,13 +104,12 @@ fn determined(groups: [Group; 3]) -> Hectare
 // The type and age of a hectare, under a name for its trees.
 fn say_hectare(rt: &impl Print, name: &[u8], groups: [Group; 3]) -> io::Result<()> {
     say(rt, name)?;
-    let hectare = determined(groups);
-    match hectare {
-        Hectare::Of { forest, age } => {
-            say_forest(rt, b": ", forest)?;
-            say_number(rt, b", age ", age as u64)?;
+    match determined(groups) {
+        Ok(hectare) => {
+            say_forest(rt, b": ", hectare.forest)?;
+            say_number(rt, b", age ", u64::from(hectare.age))?;
         }
-        Hectare::Turned(refusal) => say_refused(rt, refusal)?,
+        Err(refusal) => say_refused(rt, refusal)?,
     }
     say(rt, b"\n")?;
     Ok(())

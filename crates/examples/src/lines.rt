@@ -59,8 +59,8 @@ fn read_named(rt: &impl Print, name: &[u8], line: &[u8]) -> io::Result<()> {
     say(rt, name)?;
     let parsed = line::parse(line);
     match parsed {
-        Parsed::Taken(entry) => say_entry(rt, entry)?,
-        Parsed::Refused(refusal) => say_refused(rt, refusal)?,
+        Ok(entry) => say_entry(rt, entry)?,
+        Err(refusal) => say_refused(rt, refusal)?,
     }
     say(rt, b"\n")?;
     Ok(())

@@ -34,6 +34,6 @@ pub(crate) fn say_forest(rt: &impl Print, words: &[u8], forest: Forest) -> io::R
 }
 
 pub(crate) fn say_refused(rt: &impl Print, refusal: Refusal) -> io::Result<()> {
-    say_number(rt, b": refused ", refusals::number(refusal) as u64)?;
+    say_number(rt, b": refused ", u8::from(refusal) as u64)?;
     Ok(())
 }

@@ -116,8 +116,8 @@ fn say_taken(
     let outcome = step::enter(own, holding, on);
     let verdict = outcome.verdict;
     match verdict {
-        Verdict::Accepted => say(rt, b": taken")?,
-        Verdict::Refused(refusal) => say_refused(rt, refusal)?,
+        Ok(()) => say(rt, b": taken")?,
+        Err(refusal) => say_refused(rt, refusal)?,
     }
     say(rt, b"\n")?;
     Ok(())

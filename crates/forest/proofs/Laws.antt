@@ -1,6 +1,7 @@
 -- Letters and types: a type's letters name it, and nothing else does; two types at one place are one type.
-use Rattle.laws.proofs.{ℕ, ◌≤◌, Bool, true, false, cond, ◌≡◌, refl, sym, ap, ◌∙◌, List, [], ◌∷◌, arith, eqb-true, eq-eqb, ne_eqb, eqb, ltb, lit≤, length, get_or}
-use Rattle.forest.specs.{Region, Forest, region_number, letters_of, letters_written, beside, letters, regions, letter_names, region_names, named, order_of, same_type, Named}
+use Rattle.std.specs.Prelude.{Some, None}
+use Rattle.laws.proofs.{ℕ, ◌≤◌, Bool, true, false, cond, ◌≡◌, refl, sym, ap, ◌∙◌, List, [], ◌∷◌, arith, eqb-true, eq-eqb, ne_eqb, eqb, lit≤, length, get_or}
+use Rattle.forest.specs.{Region, Forest, region_number, letters_of, beside, letters, regions, letter_names, region_names, named, order_of, same_type}
 
 pub nine_regions : (r : Region) → region_number r ≤ 9
 nine_regions Region.Auckland = lit≤ tt
@@ -35,33 +36,22 @@ two_bytes (b ∷ []) h e = absurd (omega arith)
 two_bytes (b ∷ d ∷ []) h e = simp (eq-eqb b 80 e)
 two_bytes (b ∷ d ∷ f ∷ s) h e = absurd (omega arith)
 
-pub no_radiata : (s : List ℕ) → length s ≡ 2 → (get_or s 0 0 ≡ 80 → ⊥) → Named.Unlisted ≡ named s
+pub no_radiata : (s : List ℕ) → length s ≡ 2 → (get_or s 0 0 ≡ 80 → ⊥) → None ≡ named s
 unfolding named
 no_radiata [] h e = absurd (omega arith)
 no_radiata (b ∷ []) h e = absurd (omega arith)
 no_radiata (b ∷ d ∷ []) h e = simp (ne_eqb b 80 e)
 no_radiata (b ∷ d ∷ f ∷ s) h e = absurd (omega arith)
 
-pub no_letters : (s : List ℕ) → (length s ≡ 1 → ⊥) → (length s ≡ 2 → ⊥) → Named.Unlisted ≡ named s
+pub no_letters : (s : List ℕ) → (length s ≡ 1 → ⊥) → (length s ≡ 2 → ⊥) → None ≡ named s
 unfolding named
 no_letters [] h e = refl
 no_letters (b ∷ []) h e = absurd (h refl)
 no_letters (b ∷ d ∷ []) h e = absurd (e refl)
 no_letters (b ∷ d ∷ f ∷ s) h e = refl
 
--- a type's letters are the first byte written of it, or both
-pub written-letters : (f : Forest) → let x = letters_written f in
-    cond (ltb 1 x.len) (get_or x.bytes 0 0 ∷ get_or x.bytes 1 0 ∷ []) (get_or x.bytes 0 0 ∷ []) ≡ letters_of f
-unfolding letters_of
-written-letters Forest.Bare = refl
-written-letters (Forest.Radiata r) = refl
-written-letters Forest.DouglasFir = refl
-written-letters Forest.ExoticSoftwoods = refl
-written-letters Forest.ExoticHardwoods = refl
-written-letters Forest.Indigenous = refl
-
 -- a type's letters name it
-pub letters_name : (f : Forest) → named (letters_of f) ≡ Named.Listed f
+pub letters_name : (f : Forest) → named (letters_of f) ≡ Some f
 unfolding named letters_of letter_names region_names beside
 letters_name Forest.Bare = refl
 letters_name (Forest.Radiata Region.Auckland) = refl
@@ -83,24 +73,24 @@ abbrev Each : (ℕ → Forest → Type 0) → List (ℕ × Forest) → Type 0
 Each P [] = Unit
 Each P (p ∷ ps) = P p.0 p.1 × Each P ps
 
-besides : (P : ℕ → Forest → Type 0) (b : ℕ) (f : Forest) (l : List (ℕ × Forest)) → Each P l → beside b l ≡ Named.Listed f → P b f
+besides : (P : ℕ → Forest → Type 0) (b : ℕ) (f : Forest) (l : List (ℕ × Forest)) → Each P l → beside b l ≡ Some f → P b f
 unfolding beside
 besides P b f [] all e = let z : ◌≡◌ {A = ℕ} 0 1 = cc in absurd (omega arith)
 besides P b f (p ∷ ps) all e = go (eqb b p.0) refl e (besides P b f ps all.1)
   where
-    go : (t : Bool) → eqb b p.0 ≡ t → cond t (Named.Listed p.1) (beside b ps) ≡ Named.Listed f → (beside b ps ≡ Named.Listed f → P b f) → P b f
+    go : (t : Bool) → eqb b p.0 ≡ t → cond t (Some p.1) (beside b ps) ≡ Some f → (beside b ps ≡ Some f → P b f) → P b f
     go true q r later = let k : p.1 ≡ f = cc in rw (eqb-true b p.0 q, ← k) all.0
     go false q r later = later r
 
 -- and only its letters do
-pub only_letters_name : (s : List ℕ) (f : Forest) → named s ≡ Named.Listed f → s ≡ letters_of f
+pub only_letters_name : (s : List ℕ) (f : Forest) → named s ≡ Some f → s ≡ letters_of f
 unfolding named letters_of letter_names region_names
 only_letters_name [] f e = let z : ◌≡◌ {A = ℕ} 0 1 = cc in absurd (omega arith)
 only_letters_name (b ∷ []) f e =
     besides (λ k g. k ∷ [] ≡ letters_of g) b f letters (refl, (refl, (refl, (refl, (refl, tt))))) e
 only_letters_name (b ∷ d ∷ []) f e = go (eqb b 80) refl e
   where
-    go : (t : Bool) → eqb b 80 ≡ t → cond t (region_names d) Named.Unlisted ≡ Named.Listed f → b ∷ d ∷ [] ≡ letters_of f
+    go : (t : Bool) → eqb b 80 ≡ t → cond t (region_names d) None ≡ Some f → b ∷ d ∷ [] ≡ letters_of f
     go true q r =
         ap (λ (k : ℕ). k ∷ d ∷ []) (eqb-true b 80 q)
         ∙ besides (λ k g. 80 ∷ k ∷ [] ≡ letters_of g) d f regions (refl, (refl, (refl, (refl, (refl, (refl, (refl, (refl, (refl, tt))))))))) r

@@ -1,7 +1,5 @@
 pub mod Types
 pub use declared.Forest.{Forest}
-pub use declared.Letters.{Letters}
-pub use declared.Named.{Named}
 pub use declared.Region.{Region}
-pub use Types.{region_number, digit_of, letters_written, letters, regions, order_of, same_type}
+pub use Types.{region_number, digit_of, letters, regions, order_of, same_type}
 unfoldable pub use Types.{letters_of, beside, letter_names, region_names, named}

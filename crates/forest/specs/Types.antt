@@ -1,11 +1,9 @@
 -- "Forest types: P1 to P9 (Pinus radiata with its region ..), D Douglas fir, S exotic softwoods, H exotic hardwoods, N indigenous."
 -- "Bare land is type B ..". A letter or digit is its byte.
-use Rattle.std.specs.Prelude.{◌+◌, ◌∷◌}
+use Rattle.std.specs.Prelude.{◌+◌, ◌∷◌, Some, None, Option}
 use Rattle.laws.specs.{ℕ, cond, List, [], eqb, Bool, code}
 use Rattle.forest.specs.declared.Region.{Region}
 use Rattle.forest.specs.declared.Forest.{Forest}
-use Rattle.forest.specs.declared.Named.{Named}
-use Rattle.forest.specs.declared.Letters.{Letters}
 
 -- "1 Auckland, 2 Bay of Plenty, 3 Canterbury/West Coast, 4 Gisborne, 5 Hawke's Bay/Southern North Island,
 -- 6 Nelson/Marlborough, 7 Otago, 8 Southland, 9 Waikato/Taupo"
@@ -31,19 +29,10 @@ letters_of Forest.ExoticSoftwoods = code "S" ∷ []
 letters_of Forest.ExoticHardwoods = code "H" ∷ []
 letters_of Forest.Indigenous = code "N" ∷ []
 
--- the letters in two bytes, the second 0 where there is one letter
-abbrev pub letters_written : Forest → Letters
-letters_written Forest.Bare = record { len = 1; bytes = code "B" ∷ 0 ∷ [] }
-letters_written (Forest.Radiata region) = record { len = 2; bytes = code "P" ∷ digit_of region ∷ [] }
-letters_written Forest.DouglasFir = record { len = 1; bytes = code "D" ∷ 0 ∷ [] }
-letters_written Forest.ExoticSoftwoods = record { len = 1; bytes = code "S" ∷ 0 ∷ [] }
-letters_written Forest.ExoticHardwoods = record { len = 1; bytes = code "H" ∷ 0 ∷ [] }
-letters_written Forest.Indigenous = record { len = 1; bytes = code "N" ∷ 0 ∷ [] }
-
 -- the type that stands beside a byte in a list
-unfoldable pub beside : ℕ → List (ℕ × Forest) → Named
-beside b [] = Named.Unlisted
-beside b (p ∷ ps) = cond (eqb b p.0) (Named.Listed p.1) (beside b ps)
+unfoldable pub beside : ℕ → List (ℕ × Forest) → Option Forest
+beside b [] = None
+beside b (p ∷ ps) = cond (eqb b p.0) (Some p.1) (beside b ps)
 
 abbrev pub letters : List (ℕ × Forest)
 letters = (code "B", Forest.Bare) ∷ (code "D", Forest.DouglasFir) ∷ (code "S", Forest.ExoticSoftwoods) ∷ (code "H", Forest.ExoticHardwoods) ∷ (code "N", Forest.Indigenous) ∷ []
@@ -54,18 +43,18 @@ regions =
     ∷ (code "5", Forest.Radiata Region.HawkesBaySouthernNorthIsland) ∷ (code "6", Forest.Radiata Region.NelsonMarlborough) ∷ (code "7", Forest.Radiata Region.Otago)
     ∷ (code "8", Forest.Radiata Region.Southland) ∷ (code "9", Forest.Radiata Region.WaikatoTaupo) ∷ []
 
-unfoldable pub letter_names : ℕ → Named
+unfoldable pub letter_names : ℕ → Option Forest
 letter_names b = beside b letters
 
-unfoldable pub region_names : ℕ → Named
+unfoldable pub region_names : ℕ → Option Forest
 region_names b = beside b regions
 
 -- what bytes name: one letter, or P and a region's digit
-unfoldable pub named : List ℕ → Named
-named [] = Named.Unlisted
+unfoldable pub named : List ℕ → Option Forest
+named [] = None
 named (b ∷ []) = letter_names b
-named (b ∷ d ∷ []) = cond (eqb b (code "P")) (region_names d) Named.Unlisted
-named (b ∷ d ∷ e ∷ more) = Named.Unlisted
+named (b ∷ d ∷ []) = cond (eqb b (code "P")) (region_names d) None
+named (b ∷ d ∷ e ∷ more) = None
 
 -- P1 to P9, D, S, H, N, counted from 1; bare land has no column
 abbrev pub order_of : Forest → ℕ

@@ -2,9 +2,9 @@
 #![tactic(auto)]
 
 ghost use Rattle.std.specs.Prelude.{◌≡◌};
-ghost use Rattle.forest.specs.{region_number, digit_of, letters_written, letter_names, region_names, named, order_of, same_type};
+ghost use Rattle.forest.specs.{region_number, letters_of, letter_names, region_names, named, order_of, same_type};
 
-#[derive(Clone, Copy)]
+#[derive(Clone, Copy, PartialEq, Eq)]
 pub enum Region {
     Auckland,
     BayOfPlenty,
@@ -18,7 +18,7 @@ pub enum Region {
 }
 
 // The type of a stand, or bare land. Only Pinus radiata carries a region.
-#[derive(Clone, Copy)]
+#[derive(Clone, Copy, PartialEq, Eq)]
 pub enum Forest {
     Bare,
     Radiata(Region),
@@ -28,66 +28,47 @@ pub enum Forest {
     Indigenous,
 }
 
-// What letters name.
-#[derive(Clone, Copy)]
-pub enum Named {
-    Listed(Forest),
-    Unlisted,
-}
-
-// The letters of a type: the first `len` bytes.
-#[derive(Clone, Copy)]
-pub struct Letters {
-    pub len: usize,
-    pub bytes: [u8; 2],
-}
-
 #[tactic(auto, unfolding(crate::specs::Types::letter_names, crate::specs::Types::beside))]
-fn letter_names(letter: u8) -> Named
+fn letter_names(letter: u8) -> Option<Forest>
     ensures { result ≡ letter_names letter }
 {
     match letter {
-        b'B' => Named::Listed(Forest::Bare),
-        b'D' => Named::Listed(Forest::DouglasFir),
-        b'S' => Named::Listed(Forest::ExoticSoftwoods),
-        b'H' => Named::Listed(Forest::ExoticHardwoods),
-        b'N' => Named::Listed(Forest::Indigenous),
-        _ => Named::Unlisted,
+        b'B' => Some(Forest::Bare),
+        b'D' => Some(Forest::DouglasFir),
+        b'S' => Some(Forest::ExoticSoftwoods),
+        b'H' => Some(Forest::ExoticHardwoods),
+        b'N' => Some(Forest::Indigenous),
+        _ => None,
     }
 }
 
 #[tactic(auto, unfolding(crate::specs::Types::region_names, crate::specs::Types::beside))]
-fn region_names(digit: u8) -> Named
+fn region_names(digit: u8) -> Option<Forest>
     ensures { result ≡ region_names digit }
 {
     match digit {
-        b'1' => Named::Listed(Forest::Radiata(Region::Auckland)),
-        b'2' => Named::Listed(Forest::Radiata(Region::BayOfPlenty)),
-        b'3' => Named::Listed(Forest::Radiata(Region::CanterburyWestCoast)),
-        b'4' => Named::Listed(Forest::Radiata(Region::Gisborne)),
-        b'5' => Named::Listed(Forest::Radiata(Region::HawkesBaySouthernNorthIsland)),
-        b'6' => Named::Listed(Forest::Radiata(Region::NelsonMarlborough)),
-        b'7' => Named::Listed(Forest::Radiata(Region::Otago)),
-        b'8' => Named::Listed(Forest::Radiata(Region::Southland)),
-        b'9' => Named::Listed(Forest::Radiata(Region::WaikatoTaupo)),
-        _ => Named::Unlisted,
+        b'1' => Some(Forest::Radiata(Region::Auckland)),
+        b'2' => Some(Forest::Radiata(Region::BayOfPlenty)),
+        b'3' => Some(Forest::Radiata(Region::CanterburyWestCoast)),
+        b'4' => Some(Forest::Radiata(Region::Gisborne)),
+        b'5' => Some(Forest::Radiata(Region::HawkesBaySouthernNorthIsland)),
+        b'6' => Some(Forest::Radiata(Region::NelsonMarlborough)),
+        b'7' => Some(Forest::Radiata(Region::Otago)),
+        b'8' => Some(Forest::Radiata(Region::Southland)),
+        b'9' => Some(Forest::Radiata(Region::WaikatoTaupo)),
+        _ => None,
     }
 }
 
 // The type that a part of a line names.
-pub fn read(letters: &[u8]) -> Named
+pub fn read(letters: &[u8]) -> Option<Forest>
     ensures { result ≡ named letters.now }
 {
-    if letters.len() == 1 {
-        return letter_names(letters[0]);
+    match letters {
+        [letter] => letter_names(*letter),
+        [b'P', digit] => region_names(*digit),
+        _ => None,
     }
-    if letters.len() == 2 {
-        if letters[0] == b'P' {
-            return region_names(letters[1]);
-        }
-        return Named::Unlisted;
-    }
-    Named::Unlisted
 }
 
 fn region_number(region: Region) -> u8
@@ -106,40 +87,26 @@ fn region_number(region: Region) -> u8
     }
 }
 
-fn digit(region: Region) -> u8
-    ensures { result ≡ digit_of region }
-{
-    b'0' + region_number(region)
-}
-
-pub fn write(forest: Forest) -> Letters
-    ensures { result ≡ letters_written forest }
+// The letters of a type.
+#[tactic(auto, unfolding(crate::specs::Types::letters_of))]
+pub fn write(forest: Forest) -> &'static [u8]
+    ensures { result.now ≡ letters_of forest }
 {
     match forest {
-        Forest::Bare => Letters {
-            len: 1,
-            bytes: [b'B', 0],
-        },
-        Forest::Radiata(region) => Letters {
-            len: 2,
-            bytes: [b'P', digit(region)],
-        },
-        Forest::DouglasFir => Letters {
-            len: 1,
-            bytes: [b'D', 0],
-        },
-        Forest::ExoticSoftwoods => Letters {
-            len: 1,
-            bytes: [b'S', 0],
-        },
-        Forest::ExoticHardwoods => Letters {
-            len: 1,
-            bytes: [b'H', 0],
-        },
-        Forest::Indigenous => Letters {
-            len: 1,
-            bytes: [b'N', 0],
-        },
+        Forest::Bare => b"B",
+        Forest::Radiata(Region::Auckland) => b"P1",
+        Forest::Radiata(Region::BayOfPlenty) => b"P2",
+        Forest::Radiata(Region::CanterburyWestCoast) => b"P3",
+        Forest::Radiata(Region::Gisborne) => b"P4",
+        Forest::Radiata(Region::HawkesBaySouthernNorthIsland) => b"P5",
+        Forest::Radiata(Region::NelsonMarlborough) => b"P6",
+        Forest::Radiata(Region::Otago) => b"P7",
+        Forest::Radiata(Region::Southland) => b"P8",
+        Forest::Radiata(Region::WaikatoTaupo) => b"P9",
+        Forest::DouglasFir => b"D",
+        Forest::ExoticSoftwoods => b"S",
+        Forest::ExoticHardwoods => b"H",
+        Forest::Indigenous => b"N",
     }
 }
 
@@ -160,5 +127,5 @@ pub fn order(forest: Forest) -> usize
 pub fn same(a: Forest, b: Forest) -> bool
     ensures { result ≡ same_type a b }
 {
-    order(a) == order(b)
+    a == b
 }

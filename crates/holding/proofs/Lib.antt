@@ -1,3 +1,3 @@
-pub mod Places
+pub mod Items
 pub mod Residues
 pub mod Stands

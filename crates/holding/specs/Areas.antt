@@ -1,5 +1,6 @@
 -- "A holding has up to 16 accounting areas ever (records are kept), each with up to 16 sub-areas." Of these, "the limit becomes 48" (document 02, item 4).
-use Rattle.std.specs.Prelude.{◌&&◌, ◌∷◌, ◌+◌}
+use Rattle.std.specs.Prelude.{◌&&◌, ◌∷◌, Option}
+use Rattle.std.specs.List.{position_from}
 use Rattle.laws.specs.{ℕ, Bool, true, false, cond, List, [], eqb, take, replicate}
 use Rattle.units.specs.{Kilograms, no_kilograms}
 use Rattle.forest.specs.{Forest}
@@ -8,7 +9,6 @@ use Rattle.holding.specs.declared.Residue.{Residue}
 use Rattle.holding.specs.declared.Sub.{Sub}
 use Rattle.holding.specs.declared.Area.{Area}
 use Rattle.holding.specs.declared.Holding.{Holding}
-use Rattle.holding.specs.declared.Found.{Found}
 
 abbrev pub most_areas : ℕ
 most_areas = 16
@@ -112,12 +112,11 @@ abbrev pub as_withdrawn : Area → Area
 as_withdrawn a = changed a.open_year a.latest true a.returns a.stock a.received a.surrendered a.count a.subs a
 
 -- the place of the first in a list whose number it is, the list beginning at the place i
-unfoldable pub place_from : {A : Type 0} → (A → ℕ) → ℕ → ℕ → List A → Found
-place_from number_of n i [] = Found.Nowhere
-place_from number_of n i (a ∷ l) = cond (eqb (number_of a) n) (Found.At i) (place_from number_of n (i + 1) l)
+unfoldable pub place_from : {A : Type 0} → (A → ℕ) → ℕ → ℕ → List A → Option ℕ
+place_from number_of n i l = position_from (λ a. eqb (number_of a) n) i l
 
-unfoldable pub find_area : Holding → ℕ → Found
+unfoldable pub find_area : Holding → ℕ → Option ℕ
 find_area holding n = place_from (λ (a : Area). a.number) n 0 (areas_of holding)
 
-unfoldable pub find_sub : Area → ℕ → Found
+unfoldable pub find_sub : Area → ℕ → Option ℕ
 find_sub area n = place_from (λ (s : Sub). s.number) n 0 (subs_of area)

@@ -1,7 +1,6 @@
 pub mod Areas
 pub mod Numbers
 pub use declared.Area.{Area}
-pub use declared.Found.{Found}
 pub use declared.Holding.{Holding}
 pub use declared.Residue.{Residue}
 pub use declared.Sub.{Sub}

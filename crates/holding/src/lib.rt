@@ -1,8 +1,8 @@
 // The state of the accounts: a holding of accounting areas, each of sub-areas, by value.
 #![tactic(auto)]
 
-ghost use Rattle.std.specs.Prelude.{◌≡◌, replicate};
-ghost use Rattle.holding.specs.{most_subs, empty_sub, empty_area, empty_holding, numbers_in, find_area, find_sub};
+ghost use Rattle.std.specs.Prelude.{◌≡◌, ◌<◌, replicate, IfSome};
+ghost use Rattle.holding.specs.{most_areas, most_subs, areas_of, subs_of, empty_sub, empty_area, empty_holding, numbers_in, find_area, find_sub};
 
 use forest::Forest;
 use units::{Kilograms, Tenths};
@@ -66,13 +66,6 @@ pub struct Holding {
     pub areas: [Area; MOST_AREAS],
 }
 
-// A place in a list, if there is one.
-#[derive(Clone, Copy)]
-pub enum Found {
-    At(usize),
-    Nowhere,
-}
-
 // The places of an area with no sub-area.
 fn no_subs() -> [Sub; MOST_SUBS]
     ensures { result ≡ replicate most_subs empty_sub }
@@ -107,54 +100,51 @@ pub fn empty_holding() -> Holding
     }
 }
 
+impl Area {
+    // The sub-areas that stand.
+    pub fn standing(&self) -> &[Sub]
+        ensures { result.now ≡ subs_of self.now }
+    {
+        &self.subs[..self.count.min(MOST_SUBS)]
+    }
+
+    // The place of the standing sub-area with the number.
+    #[tactic(auto, unfolding(crate::specs::Areas::find_sub, crate::specs::Areas::place_from))]
+    pub fn find_sub(&self, number: u16) -> Option<usize>
+        ensures value { result ≡ find_sub self.now number }
+        ensures stands { IfSome result (λ i. i < most_subs) }
+    {
+        self.standing().iter().position(|sub| sub.number == number)
+    }
+}
+
+impl Holding {
+    // The areas that stand.
+    pub fn standing(&self) -> &[Area]
+        ensures { result.now ≡ areas_of self.now }
+    {
+        &self.areas[..self.count.min(MOST_AREAS)]
+    }
+
+    // The place of the standing area with the number.
+    #[tactic(auto, unfolding(crate::specs::Areas::find_area, crate::specs::Areas::place_from))]
+    pub fn find_area(&self, number: u16) -> Option<usize>
+        ensures value { result ≡ find_area self.now number }
+        ensures stands { IfSome result (λ i. i < most_areas) }
+    {
+        self.standing()
+            .iter()
+            .position(|area| area.number == number)
+    }
+}
+
 // The number of every area of a holding, those that do not stand too.
 pub fn numbers_of(holding: Holding) -> [u16; MOST_AREAS]
     ensures { result ≡ numbers_in holding.areas }
 {
     let mut numbers = [0u16; MOST_AREAS];
-    let mut k: usize = 0;
-    while k < MOST_AREAS {
-        let area = holding.areas[k];
+    for (k, area) in holding.areas.iter().enumerate() {
         numbers[k] = area.number;
-        k += 1;
     }
     numbers
-}
-
-// The place of the standing area with the number.
-#[tactic(auto, unfolding(crate::specs::Areas::find_area, crate::specs::Areas::place_from))]
-pub fn find_area(holding: Holding, number: u16) -> Found
-    ensures { result ≡ find_area holding number }
-{
-    let n = holding.count;
-    let mut i: usize = 0;
-    while i < MOST_AREAS {
-        if n <= i {
-            return Found::Nowhere;
-        }
-        if holding.areas[i].number == number {
-            return Found::At(i);
-        }
-        i += 1;
-    }
-    Found::Nowhere
-}
-
-// The place of the standing sub-area with the number.
-#[tactic(auto, unfolding(crate::specs::Areas::find_sub, crate::specs::Areas::place_from))]
-pub fn find_sub(area: Area, number: u16) -> Found
-    ensures { result ≡ find_sub area number }
-{
-    let n = area.count;
-    let mut i: usize = 0;
-    while i < MOST_SUBS {
-        if n <= i {
-            return Found::Nowhere;
-        }
-        if area.subs[i].number == number {
-            return Found::At(i);
-        }
-        i += 1;
-    }
-    Found::Nowhere
 }

@@ -10,6 +10,7 @@ pub fn read_full<R: Read>(input: &mut R, room: &mut [u8]) -> io::Result<usize>
     ensures { IfOk result (λ count. count ≤ length room.new) }
 {
     let mut done = 0;
+    // A read gives as many bytes as it likes, and the place moves by so many.
     while done < room.len() {
         let count = input.read(&mut room[done..])?;
         if count == 0 {

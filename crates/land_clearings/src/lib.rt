@@ -1,7 +1,7 @@
 // Clearings of trees, and those whose trees count for pre-1990 forest land.
 #![tactic(auto)]
 
-ghost use Rattle.std.specs.Prelude.{◌≡◌, cond, take};
+ghost use Rattle.std.specs.Prelude.{◌≡◌, cond};
 ghost use Rattle.land_clearings.specs.{age_of, within, older, elder, counting_of};
 
 use forest::Forest;
@@ -25,12 +25,7 @@ pub struct Clearing {
 pub fn age(c: Clearing) -> u16
     ensures { result ≡ age_of c }
 {
-    let planted = c.planted;
-    let cleared = c.cleared;
-    if planted <= cleared {
-        return cleared - planted;
-    }
-    0
+    c.cleared.saturating_sub(c.planted)
 }
 
 fn is_within(own: Clearing, c: Clearing) -> bool
@@ -60,22 +55,16 @@ fn set_against(own: Clearing, best: Clearing, c: Clearing) -> Clearing
     best
 }
 
-// The clearing whose trees count, of one and the first `count` earlier ones.
-pub fn counting(own: Clearing, earlier: [Clearing; MOST_EARLIER], count: usize) -> Clearing
-    ensures { result ≡ counting_of own (take count earlier) }
+// The clearing whose trees count, of one and earlier ones.
+pub fn counting(own: Clearing, earlier: &[Clearing]) -> Clearing
+    ensures { result ≡ counting_of own earlier.now }
 {
     if LEAST_AGE <= age(own) {
         return own;
     }
     let mut best = own;
-    let mut i: usize = 0;
-    while i < MOST_EARLIER {
-        if count <= i {
-            return best;
-        }
-        let c = earlier[i];
-        best = set_against(own, best, c);
-        i += 1;
+    for c in earlier {
+        best = set_against(own, best, *c);
     }
     best
 }

@@ -1,4 +1,5 @@
 -- The guide's examples of deforestation (002, 5.2), and hectares rounded for each parcel, by computation.
+use Rattle.std.specs.Prelude.{Ok}
 use Rattle.laws.proofs.{ℕ, ◌≡◌, refl, List, [], ◌∷◌, length}
 use Rattle.laws.specs.{some, keep, sum_by}
 use Rattle.refusals.specs.{weighed, weigh_all, smallest}
@@ -8,7 +9,7 @@ use Rattle.schedules.specs.{joined, places_from, stock4, schedule4, place_four}
 use Rattle.rates.specs.{cell_at, rate_four}
 use Rattle.land_clearings.specs.{elder, counting_of}
 use Rattle.land_parcels.specs.{Parcel, counted_of, amiss_of, faults_of}
-use Rattle.land_deforestation.specs.{faults_among, cases, emitted_of, total_of, answer_of, emissions_of, Emissions}
+use Rattle.land_deforestation.specs.{faults_among, cases, emitted_of, total_of, answer_of, emissions_of}
 
 -- a parcel of so many ten-thousandths, cleared in 2013 with no earlier clearing
 abbrev parcel : ℕ → Forest → ℕ → Parcel
@@ -26,7 +27,7 @@ examples =
 
 unfoldable pub AllHold : List (List Parcel × ℕ) → Type 0
 AllHold [] = Unit
-AllHold (e ∷ es) = (emissions_of (length e.0) e.0 ≡ Emissions.Tonnes e.1) × AllHold es
+AllHold (e ∷ es) = (emissions_of (length e.0) e.0 ≡ Ok e.1) × AllHold es
 
 pub examples_hold : AllHold examples
 unfolding AllHold some keep sum_by weighed weigh_all smallest tenths_of trees_of tonnes joined places_from stock4 schedule4 place_four cell_at rate_four elder counting_of counted_of amiss_of faults_of faults_among cases emitted_of total_of answer_of emissions_of

@@ -1,3 +1,4 @@
 pub mod Examples
 pub mod Refused
 pub mod Taken
+pub mod Turns

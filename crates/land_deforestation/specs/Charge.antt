@@ -1,5 +1,5 @@
 -- "Emissions are the sum of tenths × Schedule 4 cell × 10 kg over 1 to 64 parcels, rounded to tonnes, half up."
-use Rattle.std.specs.Prelude.{◌||◌, ◌∷◌}
+use Rattle.std.specs.Prelude.{◌||◌, ◌∷◌, Ok, Err, Result}
 use Rattle.laws.specs.{ℕ, List, [], eqb, ltb, some, sum_by}
 use Rattle.refusals.specs.{Verdict, Case, ◌⇒◌, smallest, Refusal}
 use Rattle.units.specs.{Kilograms, tenths_of, trees_of, tonnes}
@@ -7,10 +7,19 @@ use Rattle.schedules.specs.{schedule4}
 use Rattle.rates.specs.{rate_four}
 use Rattle.land_clearings.specs.{age_of}
 use Rattle.land_parcels.specs.{Faults, Parcel, counted_of, faults_of}
-use Rattle.land_deforestation.specs.declared.Emissions.{Emissions}
 
 abbrev pub most_parcels : ℕ
 most_parcels = 64
+
+-- what is wrong with one or the other
+abbrev pub joined : Faults → Faults → Faults
+joined a b = record {
+  bare = a.bare || b.bare;
+  hectares = a.hectares || b.hectares;
+  years = a.years || b.years;
+  order = a.order || b.order;
+  young = a.young || b.young;
+}
 
 -- what is wrong with some parcel
 unfoldable pub faults_among : List Parcel → Faults
@@ -43,9 +52,13 @@ emitted_of cells p = trees_of (tenths_of p.hectares) (rate_four cells (counted_o
 unfoldable pub total_of : List ℕ → List Parcel → Kilograms
 total_of cells ps = record { 0 = sum_by (λ (p : Parcel). (emitted_of cells p).0) ps }
 
+-- the emissions of a list in tonnes, or its refusal
+abbrev pub Emissions : Type 0
+Emissions = Result ℕ Refusal
+
 unfoldable pub answer_of : Verdict → List Parcel → Emissions
-answer_of (Verdict.Refused refusal) ps = Emissions.Turned refusal
-answer_of Verdict.Accepted ps = Emissions.Tonnes (tonnes (total_of schedule4 ps).0)
+answer_of (Err refusal) ps = Err refusal
+answer_of (Ok _) ps = Ok (tonnes (total_of schedule4 ps).0)
 
 unfoldable pub emissions_of : ℕ → List Parcel → Emissions
 emissions_of count ps = answer_of (smallest (cases count ps)) ps

@@ -1,112 +1,85 @@
-// Deforestation of pre-1990 forest land: the emissions of parcels, the first `count` of the array.
+// Deforestation of pre-1990 forest land: the emissions of parcels.
 #![tactic(auto)]
 
-ghost use Rattle.std.specs.Prelude.{◌≡◌, ◌*◌, ◌≤◌, take};
+ghost use Rattle.std.specs.Prelude.{◌≡◌, ◌*◌, ◌≤◌, length};
 ghost use Rattle.refusals.specs.{smallest};
-ghost use Rattle.land_deforestation.specs.{faults_among, cases, emitted_of, total_of, emissions_of};
+ghost use Rattle.land_deforestation.specs.{joined, faults_among, cases, emitted_of, total_of, emissions_of};
 
 use land_parcels::{Faults, Parcel};
-use refusals::{Refusal, Verdict};
+use refusals::{Refusal, Verdict, refuse_if};
 use units::Kilograms;
 
 pub const MOST_PARCELS: usize = 64;
 
-#[derive(Clone, Copy)]
-pub enum Emissions {
-    Tonnes(u64),
-    Turned(Refusal),
-}
-
-fn find_faults(parcels: [Parcel; MOST_PARCELS], count: usize) -> Faults
-    ensures { result ≡ faults_among (take count parcels) }
+// What is wrong with one or the other.
+fn joined(a: Faults, b: Faults) -> Faults
+    ensures { result ≡ joined a b }
 {
-    let mut bare = false;
-    let mut hectares = false;
-    let mut years = false;
-    let mut order = false;
-    let mut young = false;
-    let mut i: usize = 0;
-    while i < MOST_PARCELS {
-        if count <= i {
-            return Faults {
-                bare,
-                hectares,
-                years,
-                order,
-                young,
-            };
-        }
-        let p = parcels[i];
-        let found = land_parcels::find_faults(p);
-        bare = bare | found.bare;
-        hectares = hectares | found.hectares;
-        years = years | found.years;
-        order = order | found.order;
-        young = young | found.young;
-        i += 1;
-    }
     Faults {
-        bare,
-        hectares,
-        years,
-        order,
-        young,
+        bare: a.bare | b.bare,
+        hectares: a.hectares | b.hectares,
+        years: a.years | b.years,
+        order: a.order | b.order,
+        young: a.young | b.young,
     }
 }
 
-fn judge(parcels: [Parcel; MOST_PARCELS], count: usize) -> Verdict
-    ensures { result ≡ smallest (cases count (take count parcels)) }
+fn find_faults(parcels: &[Parcel]) -> Faults
+    ensures { result ≡ faults_among parcels.now }
 {
-    let found = find_faults(parcels, count);
-    let bare = refusals::weigh(Verdict::Accepted, found.bare, Refusal::ForestType);
-    let hectares = refusals::weigh(bare, found.hectares, Refusal::Hectares);
-    let years = refusals::weigh(hectares, found.years, Refusal::YearRange);
-    let number = refusals::weigh(
-        years,
-        (count == 0) | (MOST_PARCELS < count),
+    let mut found = Faults {
+        bare: false,
+        hectares: false,
+        years: false,
+        order: false,
+        young: false,
+    };
+    for p in parcels {
+        found = joined(found, land_parcels::find_faults(p));
+    }
+    found
+}
+
+fn judge(parcels: &[Parcel]) -> Verdict
+    ensures { result ≡ smallest (cases (length parcels.now) parcels.now) }
+{
+    let found = find_faults(parcels);
+    refuse_if(found.bare, Refusal::ForestType)?;
+    refuse_if(found.hectares, Refusal::Hectares)?;
+    refuse_if(found.years, Refusal::YearRange)?;
+    refuse_if(
+        parcels.is_empty() | (MOST_PARCELS < parcels.len()),
         Refusal::ParcelList,
-    );
-    let order = refusals::weigh(number, found.order, Refusal::ParcelList);
-    refusals::weigh(order, found.young, Refusal::NoTreesOfNineYears)
+    )?;
+    refuse_if(found.order, Refusal::ParcelList)?;
+    refuse_if(found.young, Refusal::NoTreesOfNineYears)
 }
 
 // A parcel's emissions, by the cells of Schedule 4.
-fn emitted(cells: &[u16], p: Parcel) -> Kilograms
-    ensures { (result ≡ emitted_of cells.now p) × (result.0 ≤ 4294967295 * 65535 * 10) }
+fn emitted(cells: &[u16], p: &Parcel) -> Kilograms
+    ensures { (result ≡ emitted_of cells.now p.now) × (result.0 ≤ 4294967295 * 65535 * 10) }
 {
     let counted = land_parcels::counted(p);
-    let forest = counted.forest;
-    let rate = rates::rate_four(cells, forest, land_clearings::age(counted));
-    let land = units::rounded(p.hectares);
-    land.trees(rate)
+    let rate = rates::rate_four(cells, counted.forest, land_clearings::age(counted));
+    units::rounded(p.hectares).trees(rate)
 }
 
-fn total(cells: &[u16], parcels: [Parcel; MOST_PARCELS], count: usize) -> Kilograms
-    ensures { result ≡ total_of cells.now (take count parcels) }
+fn total(cells: &[u16], parcels: &[Parcel]) -> Kilograms
+    requires { length parcels.now ≤ 64 }
+    ensures { result ≡ total_of cells.now parcels.now }
 {
     let mut sum = Kilograms::none();
-    let mut i: usize = 0;
-    while i < MOST_PARCELS {
-        if count <= i {
-            return sum;
-        }
-        let p = parcels[i];
-        let more = emitted(cells, p);
-        sum = sum.plus(more);
-        i += 1;
+    for p in parcels {
+        sum = sum.plus(emitted(cells, p));
     }
     sum
 }
 
 // The emissions in tonnes, or the refusal of the list.
-pub fn calculate(parcels: [Parcel; MOST_PARCELS], count: usize) -> Emissions
-    ensures { result ≡ emissions_of count (take count parcels) }
+pub fn calculate(parcels: &[Parcel]) -> Result<u64, Refusal>
+    ensures { result ≡ emissions_of (length parcels.now) parcels.now }
 {
-    let verdict = judge(parcels, count);
-    if let Verdict::Refused(refusal) = verdict {
-        return Emissions::Turned(refusal);
-    }
+    judge(parcels)?;
     let cells = schedules::schedule_four();
-    let sum = total(&cells, parcels, count);
-    Emissions::Tonnes(sum.to_tonnes())
+    Ok(total(&cells, parcels).to_tonnes())
 }

@@ -1,9 +1,8 @@
 // The tree groups of one hectare: basal area by species, and the mean age of a type.
-// The groups are the first `count` of the array.
 #![tactic(auto)]
 
-ghost use Rattle.std.specs.Prelude.{◌≡◌, cond, ◌≤◌, take};
-ghost use Rattle.land_groups.specs.{area, weighted_age, species_area, weights_of, mean_age};
+ghost use Rattle.std.specs.Prelude.{◌≡◌, cond, ◌≤◌, length};
+ghost use Rattle.land_groups.specs.{of_type, area, weighted_age, species_area, weights_of, mean_age};
 
 use forest::Forest;
 
@@ -16,6 +15,21 @@ pub struct Group {
     pub forest: Forest,
     pub age: u16,
     pub basal_area: u32,
+}
+
+impl Group {
+    pub fn is_of(&self, forest: Forest) -> bool
+        ensures { result ≡ of_type forest self.now }
+    {
+        self.forest == forest
+    }
+}
+
+// The groups of one hectare, as they are lent; few enough for their sums to have room.
+#[derive(Clone, Copy)]
+pub struct Groups<'a> {
+    pub listed: &'a [Group],
+    ghost few: { length listed.now ≤ 64 },
 }
 
 // The basal area of groups, and the sum of their ages times their basal areas.
@@ -45,54 +59,41 @@ fn weighted_if(counts: bool, g: Group) -> u64
     0
 }
 
-pub fn species_area(groups: [Group; MOST_GROUPS], count: usize, species: u16) -> u64
-    ensures { result ≡ species_area (take count groups) species }
-{
-    let mut sum: u64 = 0;
-    let mut i: usize = 0;
-    while i < MOST_GROUPS {
-        if count <= i {
-            return sum;
+impl Groups<'_> {
+    pub fn species_area(&self, species: u16) -> u64
+        ensures { result ≡ species_area self.now.listed.now species }
+    {
+        let mut sum: u64 = 0;
+        for g in self.listed {
+            sum += area_if(g.species == species, *g);
         }
-        let g = groups[i];
-        sum += area_if(g.species == species, g);
-        i += 1;
+        sum
     }
-    sum
-}
 
-fn type_weights(groups: [Group; MOST_GROUPS], count: usize, forest: Forest) -> Weights
-    ensures { (result ≡ weights_of (take count groups) forest) × (result.area ≤ 274877906880) × (result.age ≤ 18014123627380800) }
-{
-    let mut area: u64 = 0;
-    let mut age: u64 = 0;
-    let mut i: usize = 0;
-    while i < MOST_GROUPS {
-        if count <= i {
-            return Weights { area, age };
+    fn type_weights(&self, forest: Forest) -> Weights
+        ensures { (result ≡ weights_of self.now.listed.now forest) × (result.area ≤ 274877906880) × (result.age ≤ 18014123627380800) }
+    {
+        let mut area: u64 = 0;
+        let mut age: u64 = 0;
+        for g in self.listed {
+            let counts = g.is_of(forest);
+            area += area_if(counts, *g);
+            age += weighted_if(counts, *g);
         }
-        let g = groups[i];
-        let f = g.forest;
-        let counts = forest::same(f, forest);
-        area += area_if(counts, g);
-        age += weighted_if(counts, g);
-        i += 1;
+        Weights { area, age }
     }
-    Weights { area, age }
-}
 
-// The mean age of the groups of a type, 0 where there is none.
-pub fn mean_age(groups: [Group; MOST_GROUPS], count: usize, forest: Forest) -> u64
-    ensures { result ≡ mean_age (take count groups) forest }
-{
-    let weights = type_weights(groups, count, forest);
-    let area = weights.area;
-    let age = weights.age;
-    if area == 0 {
-        return 0;
+    // The mean age of the groups of a type, 0 where there is none.
+    pub fn mean_age(&self, forest: Forest) -> u64
+        ensures { result ≡ mean_age self.now.listed.now forest }
+    {
+        let Weights { area, age } = self.type_weights(forest);
+        if area == 0 {
+            return 0;
+        }
+        if 2 * (age % area) < area {
+            return age / area;
+        }
+        age / area + 1
     }
-    if 2 * (age % area) < area {
-        return age / area;
-    }
-    age / area + 1
 }

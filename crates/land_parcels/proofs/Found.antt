@@ -4,14 +4,14 @@ use Rattle.laws.specs.{some}
 use Rattle.land_clearings.specs.{Clearing}
 use Rattle.land_parcels.specs.{Amiss, clears_bare, out_of_years, misordered, amiss_of}
 
-found : (test : Clearing → Bool) (own : Clearing) (earlier : List Clearing) (first all : Bool) → first ≡ test own → all ≡ (first || some test earlier) → all ≡ some test (own ∷ earlier)
+found : (test : Clearing → Bool) (own : Clearing) (earlier : List Clearing) (first any : Bool) → first ≡ test own → any ≡ some test earlier → (first || any) ≡ some test (own ∷ earlier)
 unfolding some
-found test own earlier first all e f = f ∙ ap (λ (b : Bool). b || some test earlier) e
+found test own earlier first any e f = ap (λ (b : Bool). b || any) e ∙ ap (λ (b : Bool). test own || b) f
 
 module _ (own : Clearing) (earlier : List Clearing) (bare₀ years₀ order₀ bare years order : Bool) where
   pub all_found : bare₀ ≡ clears_bare own → years₀ ≡ out_of_years own → order₀ ≡ misordered own.cleared own
-      → bare ≡ (bare₀ || some clears_bare earlier) → years ≡ (years₀ || some out_of_years earlier) → order ≡ (order₀ || some (misordered own.cleared) earlier)
-      → ◌≡◌ {A = Amiss} (record { bare = bare; years = years; order = order }) (amiss_of own earlier)
+      → bare ≡ some clears_bare earlier → years ≡ some out_of_years earlier → order ≡ some (misordered own.cleared) earlier
+      → ◌≡◌ {A = Amiss} (record { bare = bare₀ || bare; years = years₀ || years; order = order₀ || order }) (amiss_of own earlier)
   unfolding amiss_of
   all_found b₀ y₀ o₀ b y o =
       let e = found clears_bare own earlier bare₀ bare b₀ b in

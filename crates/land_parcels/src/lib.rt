@@ -1,13 +1,14 @@
 // A parcel of pre-1990 forest land that is deforested: the trees that count, and what refuses the parcel.
 #![tactic(auto)]
 
-ghost use Rattle.std.specs.Prelude.{◌≡◌, take};
-ghost use Rattle.land_parcels.specs.{own_clearing, counted_of, clears_bare, off_years, out_of_years, misordered, amiss_of, faults_of};
+ghost use Rattle.std.specs.Prelude.{◌≡◌};
+ghost use Rattle.land_parcels.specs.{own_clearing, earlier_of, counted_of, clears_bare, off_years, out_of_years, misordered, amiss_of, faults_of};
 
 use forest::Forest;
 use land_clearings::{Clearing, MOST_EARLIER};
 
-// Hectares are ten-thousandths; the earlier clearings are the first `count`.
+// Hectares are ten-thousandths; the earlier clearings are the first `count`. The count stands beside an array, and not for a slice, since
+// land_parcels/past_the_count tells what is past it from what is not.
 #[derive(Clone, Copy)]
 pub struct Parcel {
     pub hectares: u32,
@@ -36,31 +37,36 @@ struct Amiss {
     order: bool,
 }
 
-fn own_clearing(p: Parcel) -> Clearing
-    ensures { result ≡ own_clearing p }
-{
-    let forest = p.forest;
-    Clearing {
-        forest,
-        planted: p.planted,
-        cleared: p.cleared,
+impl Parcel {
+    fn own_clearing(&self) -> Clearing
+        ensures { result ≡ own_clearing self.now }
+    {
+        Clearing {
+            forest: self.forest,
+            planted: self.planted,
+            cleared: self.cleared,
+        }
+    }
+
+    // The earlier clearings that are given: none past the last place.
+    fn earlier(&self) -> &[Clearing]
+        ensures { result.now ≡ earlier_of self.now }
+    {
+        &self.earlier[..self.count.min(MOST_EARLIER)]
     }
 }
 
 // The clearing whose trees count.
-pub fn counted(p: Parcel) -> Clearing
-    ensures { result ≡ counted_of p }
+pub fn counted(p: &Parcel) -> Clearing
+    ensures { result ≡ counted_of p.now }
 {
-    let earlier = p.earlier;
-    let count = p.count;
-    land_clearings::counting(own_clearing(p), earlier, count)
+    land_clearings::counting(p.own_clearing(), p.earlier())
 }
 
-fn clears_bare(c: Clearing) -> bool
-    ensures { result ≡ clears_bare c }
+fn clears_bare(c: &Clearing) -> bool
+    ensures { result ≡ clears_bare c.now }
 {
-    let forest = c.forest;
-    forest::same(forest, Forest::Bare)
+    c.forest == Forest::Bare
 }
 
 fn off_years(year: u16) -> bool
@@ -69,51 +75,39 @@ fn off_years(year: u16) -> bool
     (year < ranges::FIRST_PLANTED) | (ranges::LAST_YEAR < year)
 }
 
-fn out_of_years(c: Clearing) -> bool
-    ensures { result ≡ out_of_years c }
+fn out_of_years(c: &Clearing) -> bool
+    ensures { result ≡ out_of_years c.now }
 {
     off_years(c.planted) | off_years(c.cleared)
 }
 
-fn is_misordered(last: u16, c: Clearing) -> bool
-    ensures { result ≡ misordered last c }
+fn is_misordered(last: u16, c: &Clearing) -> bool
+    ensures { result ≡ misordered last c.now }
 {
     (c.cleared < c.planted) | (last < c.cleared)
 }
 
-fn find_amiss(own: Clearing, earlier: [Clearing; MOST_EARLIER], count: usize) -> Amiss
-    ensures { result ≡ amiss_of own (take count earlier) }
+fn find_amiss(own: &Clearing, earlier: &[Clearing]) -> Amiss
+    ensures { result ≡ amiss_of own.now earlier.now }
 {
     let last = own.cleared;
-    let mut bare = clears_bare(own);
-    let mut years = out_of_years(own);
-    let mut order = is_misordered(last, own);
-    let mut i: usize = 0;
-    while i < MOST_EARLIER {
-        if count <= i {
-            return Amiss { bare, years, order };
-        }
-        let c = earlier[i];
-        bare = bare | clears_bare(c);
-        years = years | out_of_years(c);
-        order = order | is_misordered(last, c);
-        i += 1;
+    Amiss {
+        bare: clears_bare(own) | earlier.iter().any(|c| clears_bare(c)),
+        years: out_of_years(own) | earlier.iter().any(|c| out_of_years(c)),
+        order: is_misordered(last, own) | earlier.iter().any(|c| is_misordered(last, c)),
     }
-    Amiss { bare, years, order }
 }
 
-pub fn find_faults(p: Parcel) -> Faults
-    ensures { result ≡ faults_of p }
+pub fn find_faults(p: &Parcel) -> Faults
+    ensures { result ≡ faults_of p.now }
 {
-    let earlier = p.earlier;
-    let count = p.count;
-    let amiss = find_amiss(own_clearing(p), earlier, count);
+    let amiss = find_amiss(&p.own_clearing(), p.earlier());
     let age = land_clearings::age(counted(p));
     Faults {
         bare: amiss.bare,
         hectares: (p.hectares < ranges::LEAST_HECTARES) | (ranges::MOST_HECTARES < p.hectares),
         years: (p.cleared < ranges::FIRST_YEAR) | amiss.years,
-        order: (MOST_EARLIER < count) | amiss.order,
+        order: (MOST_EARLIER < p.count) | amiss.order,
         young: age < land_clearings::LEAST_AGE,
     }
 }

@@ -1,5 +1,6 @@
 -- What is determined of a hectare: the type is that of a predominant species, and the age follows the rule of that type.
-use Rattle.laws.proofs.{ℕ, ◌≤◌, Bool, ◌≡◌, refl, sym, ap, ◌∙◌, List, [], ◌∷◌, arith, length}
+use Rattle.std.specs.Prelude.{Ok, Err}
+use Rattle.laws.proofs.{ℕ, ◌≤◌, Bool, ◌≡◌, refl, sym, ap, subst, List, [], ◌∷◌, arith, length}
 use mathlib.Core.List.{Memᴰ}
 use native.Mathlib.Nat.{div-zero}
 use Rattle.laws.specs.{sum_by}
@@ -11,7 +12,7 @@ use Rattle.land_predominance.specs.{predominant_of}
 use Rattle.land_predominance.proofs.Order.{Ahead, predominant_best}
 use Rattle.land_ages.specs.{hectare_age}
 use Rattle.land_ages.proofs.ByType.{ByType, by_type}
-use Rattle.land_trees.specs.{bare_in, cases, answer_of, held_of, hectare_of, Hectare}
+use Rattle.land_trees.specs.{bare_in, cases, answer_of, held_of, hectare_of, aged, Hectare}
 use Rattle.land_trees.proofs.Judged.{Judged, judged}
 
 pub record Determined (gs : List Group) (forest : Forest) (age : ℕ) : Type 0 where
@@ -38,33 +39,36 @@ judged_determined : (gs : List Group) → Judged (length gs) gs → Determined g
 judged_determined [] ok = absurd (omega (arith, ok.at_least))
 judged_determined (g ∷ gs) ok = of_leader _ g gs ok
 
-pub determined : (gs : List Group) (forest : Forest) (age : ℕ) → hectare_of gs ≡ Hectare.Of forest age → Determined gs forest age
+pub determined : (gs : List Group) (forest : Forest) (age : ℕ) → hectare_of gs ≡ aged forest age → Determined gs forest age
 unfolding hectare_of held_of answer_of
 determined gs forest age e = go (smallest all) refl e
   where
     all : List Case
     all = cases (length gs) (bare_in gs) gs
 
-    go : (v : Verdict) → smallest all ≡ v → answer_of v gs ≡ Hectare.Of forest age → Determined gs forest age
-    go (Verdict.Refused r) c e = absurd (let z : ◌≡◌ {A = ℕ} 0 1 = cc in omega arith)
-    go Verdict.Accepted c e =
-        let f : (predominant_of gs).forest ≡ forest = cc in
-        let a : hectare_age gs (predominant_of gs).forest ≡ age = cc in
-        rw (← a, ← f) (judged_determined gs (judged _ _ gs c))
+    go : (v : Verdict) → smallest all ≡ v → answer_of v gs ≡ aged forest age → Determined gs forest age
+    go (Err r) c e = absurd (let z : ◌≡◌ {A = ℕ} 0 1 = cc in omega arith)
+    go (Ok _) c e =
+        let held : ◌≡◌ {A = Hectare} (record { forest = (predominant_of gs).forest; age = hectare_age gs (predominant_of gs).forest }) (record { forest = forest; age = age }) = cc in
+        subst (λ (h : Hectare). Determined gs h.forest h.age) held (judged_determined gs (judged _ _ gs c))
 
-at_most_300 : (count : ℕ) (bare : Bool) (gs : List Group) → smallest (cases count bare gs) ≡ Verdict.Accepted → hectare_age gs (predominant_of gs).forest ≤ 300
+at_most_300 : (count : ℕ) (bare : Bool) (gs : List Group) → smallest (cases count bare gs) ≡ Ok tt → hectare_age gs (predominant_of gs).forest ≤ 300
 unfolding predominant_of hectare_age mean_age weights_of half_up sum_by
 at_most_300 count bare [] c = omega (arith, div-zero 0)
 at_most_300 count bare (g ∷ gs) c =
     let ok = judged count bare (g ∷ gs) c in
     ((of_leader count g gs ok).aged.between 0 300 (λ h m t. (omega arith, (ok.ranges h m).age))).1
 
--- the answer of a clear verdict
-module _ (count : ℕ) (bare : Bool) (gs : List Group) (v : Verdict) (weighed : v ≡ smallest (cases count bare gs)) where
-  pub when_clear : (leader : Group) (age : ℕ) → v ≡ Verdict.Accepted → leader ≡ predominant_of gs → age ≡ hectare_age gs leader.forest → Hectare.Of leader.forest age ≡ held_of count bare gs
-  unfolding held_of answer_of
-  when_clear leader age e l a = rw (a, l) (ap (λ (w : Verdict). answer_of w gs) (sym e ∙ weighed))
+-- a list that is not refused
+module _ (gs : List Group) (clear : Ok tt ≡ smallest (cases (length gs) (bare_in gs) gs)) where
+  pub few : length gs ≤ 64
+  few = (judged _ _ gs (sym clear)).at_most
+
+  -- its answer
+  pub when_clear : (leader : Group) (age : ℕ) → leader ≡ predominant_of gs → age ≡ hectare_age gs leader.forest → aged leader.forest age ≡ hectare_of gs
+  unfolding hectare_of held_of answer_of
+  when_clear leader age l a = rw (a, l) (ap (λ (w : Verdict). answer_of w gs) clear)
 
   -- so an age is at most 300
-  pub age_at_most : (leader : Group) (age : ℕ) → v ≡ Verdict.Accepted → leader ≡ predominant_of gs → age ≡ hectare_age gs leader.forest → age ≤ 300
-  age_at_most leader age e l a = rw (a, l) (at_most_300 count bare gs (sym weighed ∙ e))
+  pub age_at_most : (leader : Group) (age : ℕ) → leader ≡ predominant_of gs → age ≡ hectare_age gs leader.forest → age ≤ 300
+  age_at_most leader age l a = rw (a, l) (at_most_300 _ _ gs (sym clear))

@@ -1,4 +1,5 @@
 -- What a list that is not refused keeps: a clear verdict was clear at every case.
+use Rattle.std.specs.Prelude.{Ok}
 use Rattle.laws.proofs.{ℕ, ◌≤◌, ◌<◌, Bool, true, false, not, ◌&&◌, ◌||◌, ◌≡◌, refl, sym, List, arith, ltb-false, eqb-false, eq-eqb, eqb, ltb}
 use mathlib.Core.List.{Memᴰ}
 use Rattle.laws.specs.{some}
@@ -7,7 +8,7 @@ use Rattle.refusals.specs.{Verdict, weighed, weigh_all, smallest, Refusal}
 use Rattle.refusals.proofs.Laws.{clear_before, clear_last}
 use Rattle.forest.proofs.Laws.{same_type_lem}
 use Rattle.land_groups.specs.{Group, of_species, of_type, area}
-use Rattle.land_trees.specs.{out_of_range, other_type, faults_of, cases}
+use Rattle.land_trees.specs.{out_of_range, other_type, cases}
 
 pub record InRange (g : Group) : Type 0 where
   pub age : g.age ≤ 300
@@ -38,8 +39,8 @@ and_not false b e f = absurd (let z : ◌≡◌ {A = ℕ} 0 1 = cc in omega arit
 one_type : (g h : Group) → other_type g h ≡ false → h.species ≡ g.species → h.forest ≡ g.forest
 one_type g h e s = same_type_lem h.forest g.forest (and_not (of_species g.species h) (of_type g.forest h) (eq-eqb h.species g.species s) e)
 
-pub judged : (count : ℕ) (bare : Bool) (gs : List Group) → smallest (cases count bare gs) ≡ Verdict.Accepted → Judged count gs
-unfolding smallest weigh_all cases faults_of
+pub judged : (count : ℕ) (bare : Bool) (gs : List Group) → smallest (cases count bare gs) ≡ Ok tt → Judged count gs
+unfolding smallest weigh_all cases
 judged count bare gs e = record {
   at_least = let z : count ≡ 0 → ⊥ = eqb-false count 0 (or_false_left (eqb count 0) (ltb 64 count) number) in omega arith;
   at_most = ltb-false 64 count (or_false_right (eqb count 0) (ltb 64 count) number);
@@ -48,22 +49,22 @@ judged count bare gs e = record {
 }
   where
     v1 : Verdict
-    v1 = weighed Verdict.Accepted bare Refusal.ForestType
+    v1 = weighed (Ok tt) bare Refusal.ForestType
 
     v2 : Verdict
     v2 = weighed v1 (eqb count 0 || ltb 64 count) Refusal.TreeList
 
     v3 : Verdict
-    v3 = weighed v2 (faults_of gs).out_of_range Refusal.TreeList
+    v3 = weighed v2 (some out_of_range gs) Refusal.TreeList
 
     types : some (λ g. some (other_type g) gs) gs ≡ false
-    types = clear_last v3 (faults_of gs).two_types Refusal.TreeList e
+    types = clear_last v3 (some (λ g. some (other_type g) gs) gs) Refusal.TreeList e
 
-    clear3 : v3 ≡ Verdict.Accepted
-    clear3 = clear_before v3 (faults_of gs).two_types Refusal.TreeList e
+    clear3 : v3 ≡ Ok tt
+    clear3 = clear_before v3 (some (λ g. some (other_type g) gs) gs) Refusal.TreeList e
 
     range : some out_of_range gs ≡ false
-    range = clear_last v2 (faults_of gs).out_of_range Refusal.TreeList clear3
+    range = clear_last v2 (some out_of_range gs) Refusal.TreeList clear3
 
     number : (eqb count 0 || ltb 64 count) ≡ false
-    number = clear_last v1 (eqb count 0 || ltb 64 count) Refusal.TreeList (clear_before v2 (faults_of gs).out_of_range Refusal.TreeList clear3)
+    number = clear_last v1 (eqb count 0 || ltb 64 count) Refusal.TreeList (clear_before v2 (some out_of_range gs) Refusal.TreeList clear3)

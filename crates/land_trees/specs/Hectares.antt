@@ -1,12 +1,11 @@
 -- The type and age of a hectare, or the refusal of its tree list.
-use Rattle.std.specs.Prelude.{◌&&◌, ◌||◌, ◌∷◌}
+use Rattle.std.specs.Prelude.{◌&&◌, ◌||◌, ◌∷◌, Ok, Err, Result}
 use Rattle.laws.specs.{ℕ, Bool, not, List, [], eqb, ltb, length, some}
 use Rattle.refusals.specs.{Verdict, Case, ◌⇒◌, smallest, Refusal}
 use Rattle.forest.specs.{Forest}
 use Rattle.land_groups.specs.{Group, most_groups, of_species, of_type}
 use Rattle.land_predominance.specs.{predominant_of}
 use Rattle.land_ages.specs.{hectare_age}
-use Rattle.land_trees.specs.declared.Faults.{Faults}
 use Rattle.land_trees.specs.declared.Hectare.{Hectare}
 
 abbrev pub oldest_trees : ℕ
@@ -23,13 +22,6 @@ out_of_range g = ltb oldest_trees g.age || eqb g.basal_area 0 || ltb most_basal_
 abbrev pub other_type : Group → Group → Bool
 other_type g h = of_species g.species h && not (of_type g.forest h)
 
-unfoldable pub faults_of : List Group → Faults
-faults_of gs = record {
-  out_of_range = some out_of_range gs;
-  -- "one species under two types"
-  two_types = some (λ g. some (other_type g) gs) gs;
-}
-
 -- whether some group is bare land
 abbrev pub bare_in : List Group → Bool
 bare_in gs = some (of_type Forest.Bare) gs
@@ -41,18 +33,25 @@ cases count bare gs =
     bare ⇒ Refusal.ForestType
     -- "7 tree list: none or over 64 groups, age over 300, basal area 0 or over 1000000, one species under two types"
     ∷ (eqb count 0 || ltb most_groups count) ⇒ Refusal.TreeList
-    ∷ (faults_of gs).out_of_range ⇒ Refusal.TreeList
-    ∷ (faults_of gs).two_types ⇒ Refusal.TreeList
+    ∷ some out_of_range gs ⇒ Refusal.TreeList
+    ∷ some (λ g. some (other_type g) gs) gs ⇒ Refusal.TreeList
     ∷ []
 
--- "Its type is the hectare's": the predominant species', by which the age is found
-unfoldable pub answer_of : Verdict → List Group → Hectare
-answer_of (Verdict.Refused refusal) gs = Hectare.Turned refusal
-answer_of Verdict.Accepted gs = Hectare.Of (predominant_of gs).forest (hectare_age gs (predominant_of gs).forest)
+-- what is answered of a list: its hectare's type and age, or its refusal
+abbrev pub Answer : Type 0
+Answer = Result Hectare Refusal
 
-unfoldable pub held_of : ℕ → Bool → List Group → Hectare
+abbrev pub aged : Forest → ℕ → Answer
+aged forest age = Ok (record { forest = forest; age = age })
+
+-- "Its type is the hectare's": the predominant species', by which the age is found
+unfoldable pub answer_of : Verdict → List Group → Answer
+answer_of (Err refusal) gs = Err refusal
+answer_of (Ok _) gs = aged (predominant_of gs).forest (hectare_age gs (predominant_of gs).forest)
+
+unfoldable pub held_of : ℕ → Bool → List Group → Answer
 held_of count bare gs = answer_of (smallest (cases count bare gs)) gs
 
 -- "The tree groups of one hectare are lent as a list of records": all of them are held
-unfoldable pub hectare_of : List Group → Hectare
+unfoldable pub hectare_of : List Group → Answer
 hectare_of gs = held_of (length gs) (bare_in gs) gs

@@ -1,6 +1,7 @@
 pub mod Choosing
 pub mod Distinct
 pub mod Elements
+pub mod Found
 pub mod Lists
 pub mod Order
 pub mod Signed

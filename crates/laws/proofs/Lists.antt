@@ -1,5 +1,5 @@
 -- A ceiling over a whole list, read at each place and of each part, and kept by a store and by more numbers behind; a sum after a store, and its
--- bound; and both definitions a step at a time, as a loop goes.
+-- bound; and the sum a step at a time, as a loop goes.
 use Prim.Native.Nat.{ℕ, zero, suc, ◌+◌, ◌*◌, ◌<◌, ◌≤◌}
 use mathlib.Core.Path.{◌≡◌, refl}
 use mathlib.Core.Bool.{Bool, true, false, ◌&&◌}
@@ -10,7 +10,8 @@ use native.Mathlib.Omega.{arith}
 use lib.Dec.{leb}
 use lib.ListN.{length, get_or, set, take, drop, drop_of_length-le}
 use lib.Seq.{drop-cons}
-use borrow.Author.Tests.{le-leb, lt-leb, leb-true}
+use borrow.Author.Tests.{le-leb, leb-true}
+use Rattle.std.specs.List.{list_all}
 use Rattle.laws.specs.{each_at_most, sum_of}
 
 -- both sides of a conjunction that holds
@@ -64,18 +65,11 @@ module _ (m : ℕ) where
       let h : x ≤ m = leb-true x m (and_left (leb x m) (each_at_most m xs) e) in
       omega (arith, mul-suc m (length xs), sum_at_most xs (and_right (leb x m) (each_at_most m xs) e))
 
-  module _ (s : List ℕ) (i : ℕ) where
-    pub each_fails : i < length s → m < get_or s i 0 → each_at_most m (drop i s) ≡ false
-    unfolding each_at_most
-    each_fails h t = rw (drop-cons s i 0 h) (simp (lt-leb _ _ t))
-
-    pub each_goes_on : i < length s → get_or s i 0 ≤ m → each_at_most m (drop (i + 1) s) ≡ each_at_most m (drop i s)
-    unfolding each_at_most
-    each_goes_on h t = rw (add-one, drop-cons s i 0 h) (simp (le-leb _ _ t))
-
-    pub each_ends : length s ≤ i → each_at_most m (drop i s) ≡ true
-    unfolding each_at_most
-    each_ends h = rw (drop_of_length-le s h)
+  -- as the library asks it
+  pub each_all : (xs : List ℕ) → list_all (λ x. leb x m) xs ≡ each_at_most m xs
+  unfolding each_at_most
+  each_all [] = refl
+  each_all (x ∷ xs) = rw (each_all xs) refl
 
 module _ (s : List ℕ) (i : ℕ) where
   pub sum_goes_on : i < length s → sum_of (drop i s) ≡ get_or s i 0 + sum_of (drop (i + 1) s)

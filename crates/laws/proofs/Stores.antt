@@ -2,12 +2,15 @@
 -- and what stands then.
 use Prim.Native.Nat.{ℕ, zero, suc, ◌+◌, ◌<◌, ◌≤◌}
 use mathlib.Core.Path.{◌≡◌, refl, sym, ap, ◌∙◌}
-use mathlib.Core.List.{List, [], ◌∷◌, ◌++◌}
+use mathlib.Core.List.{List, [], ◌∷◌, ◌++◌, append_assoc}
 use native.Mathlib.Numerals.{add-one}
 use native.Mathlib.Nat.{zero-add, add-zero, add-suc, suc-add}
 use native.Mathlib.Omega.{arith}
 use lib.ListN.{length, get_or, set, take, drop, drop_of_length-le, length-append, length-take, length-drop, length-set, take-append-drop, replicate, length-replicate}
 use lib.Seq.{drop-cons, sets, length-sets, sets-eq, set_out, take_at, drop-append-add, drop-drop, get_or-set_same, get_or-set_other}
+use borrow.Rule.Slice.PartMut.{put_mid}
+use Rattle.std.proofs.lemmas.List.Edits.{paste_all}
+use Rattle.std.proofs.lemmas.Slice.{put_mid-paste}
 
 module _ {A : Type 0} (s out : List A) where
   pub store_goes_on : (d : A) (at i : ℕ) → i < length s
@@ -89,3 +92,9 @@ get_d_sets l i (x ∷ xs) (suc k) d h =
     ap (λ (j : ℕ). get_or (sets (set l i x) (suc i) xs) j d) e
     ∙ get_d_sets (set l i x) (suc i) xs k d (omega (arith, length-set l i x))
     ∙ ap (get_or xs k) (get_or-set_other l i (suc i + k) x d (λ q. omega arith) ∙ ap (λ (j : ℕ). get_or l j d) (sym e))
+
+-- what a copy into a part leaves
+pub copied : {A : Type 0} (l ys xs : List A) (at k : ℕ) → ys ≡ xs → length xs ≡ k → at + k ≤ length l → put_mid at k l ys ≡ sets l at xs
+copied l ys xs at k e n h =
+    put_mid-paste at k l ys xs (length xs) e n refl ∙ paste_all l at xs (length xs) refl
+    ∙ sym (sets-eq xs l at (omega (arith, n)) ∙ append_assoc (take at l) xs (drop (at + length xs) l))

@@ -1,4 +1,5 @@
 -- The laws of a line: its body, its letter, and what refuses it before its letter is looked at.
+use Rattle.std.specs.Prelude.{Err}
 use Rattle.laws.proofs.{ℕ, ◌-◌, ◌≤◌, ◌<◌, ◌≡◌, refl, sym, ap, ◌∙◌, Bool, true, false, List, [], ◌∷◌, ◌++◌, arith, eq-eqb, ne_eqb, lt-ltb, le-ltb, length, get_or, take, drop, take_all, length-append}
 use lib.Seq.{take_at, get_or_at}
 use Rattle.text.specs.{comma, line_end, holds, split}
@@ -62,12 +63,12 @@ unfolding line_rule
 rule_known s l b x e k h = h ∙ ap (λ (n : ℕ). parsed_by (rule_of n (split s))) (sym k ∙ e)
 
 -- a letter that has no rule
-pub rule_unknown : (s : List ℕ) (l : ℕ) → l ≡ letter_of s → rule_of l (split s) ≡ no_rule → Parsed.Refused Refusal.Form ≡ parsed_by (line_rule s)
+pub rule_unknown : (s : List ℕ) (l : ℕ) → l ≡ letter_of s → rule_of l (split s) ≡ no_rule → Err Refusal.Form ≡ parsed_by (line_rule s)
 unfolding line_rule no_rule parsed smallest weigh_all weighed
 rule_unknown s l e q = sym (ap parsed_by (ap (λ (n : ℕ). rule_of n (split s)) (sym e) ∙ q))
 
 -- a case that applies, where none before it does
-first-applies : (cs : List Case) (t : Bool) → t ≡ true → smallest (t ⇒ Refusal.Form ∷ cs) ≡ Verdict.Refused Refusal.Form
+first-applies : (cs : List Case) (t : Bool) → t ≡ true → smallest (t ⇒ Refusal.Form ∷ cs) ≡ Err Refusal.Form
 unfolding smallest weigh_all weighed
 first-applies cs t e = rw e (turned_stands Refusal.Form cs)
 
@@ -76,15 +77,15 @@ unfolding smallest weigh_all weighed
 first_passed cs t e = rw e refl
 
 module _ (line s : List ℕ) (e : s ≡ body_of line) where
-  refused : smallest (conditions s) ≡ Verdict.Refused Refusal.Form → Parsed.Refused Refusal.Form ≡ entry_of line
+  refused : smallest (conditions s) ≡ Err Refusal.Form → Err Refusal.Form ≡ entry_of line
   unfolding entry_of parsed
   refused q = rw (sym e) (rw q refl)
 
-  pub too_long : longest < length s → Parsed.Refused Refusal.Form ≡ entry_of line
+  pub too_long : longest < length s → Err Refusal.Form ≡ entry_of line
   unfolding conditions
   too_long h = refused (first-applies _ _ (lt-ltb longest (length s) h))
 
-  pub broken : length s ≤ longest → holds line_end s ≡ true → Parsed.Refused Refusal.Form ≡ entry_of line
+  pub broken : length s ≤ longest → holds line_end s ≡ true → Err Refusal.Form ≡ entry_of line
   unfolding conditions
   broken h q = refused (first_passed _ _ (le-ltb longest (length s) h) ∙ first-applies _ _ q)
 

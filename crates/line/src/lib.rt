@@ -62,7 +62,7 @@ fn by_letter(body: &[u8]) -> Parsed
         b'P' => line_stand::plant_entry(body),
         b'R' => line_area::file_entry(body),
         b'W' => line_area::withdraw_entry(body),
-        _ => Parsed::Refused(Refusal::Form),
+        _ => Err(Refusal::Form),
     }
 }
 
@@ -71,10 +71,10 @@ pub fn parse(line: &[u8]) -> Parsed
 {
     let inner = body(line);
     if LONGEST < inner.len() {
-        return Parsed::Refused(Refusal::Form);
+        return Err(Refusal::Form);
     }
     if text::holds(inner, b'\n') {
-        return Parsed::Refused(Refusal::Form);
+        return Err(Refusal::Form);
     }
     by_letter(inner)
 }
@@ -89,7 +89,7 @@ pub fn read_column(line: &[u8], cells: &mut [u16]) -> ReadColumn
     let broken = text::holds(inner, b'\n');
     if other | (LONGEST < inner.len()) | broken {
         return ReadColumn {
-            verdict: Verdict::Refused(Refusal::Form),
+            verdict: Err(Refusal::Form),
             column: 0,
             count: 0,
         };

@@ -1,9 +1,10 @@
 -- An area and a year that were read make the entry, whichever it is, or the refusal.
+use Rattle.std.specs.Prelude.{Ok, Err}
 use Rattle.laws.proofs.{ℕ, ◌≡◌, refl, sym, ap, ◌∙◌, List, lit≤}
 use Rattle.text_value.specs.{value_of}
-use Rattle.refusals.specs.{Refusal, smallest, Verdict}
+use Rattle.refusals.specs.{Refusal, smallest}
 use Rattle.refusals.proofs.Laws.{ruled_out}
-use Rattle.line_entry.specs.{Act, Entry, on, number_at, parsed, area_and_year, Parsed}
+use Rattle.line_entry.specs.{Act, Entry, on, number_at, parsed, area_and_year}
 use Rattle.line_entry.proofs.Laws.{turned, taken, value_found}
 use Rattle.line_area.specs.{AreaAndYear, area_year}
 
@@ -12,11 +13,11 @@ module _ (letter : ℕ) (fs : List (List ℕ)) (read : AreaAndYear) (e : read �
   unfolding area_year
   verdict = ap (λ (a : AreaAndYear). a.verdict) e
 
-  pub year_turned : (entry : Entry) (r : Refusal) → read.verdict ≡ Verdict.Refused r → Parsed.Refused r ≡ parsed (smallest (area_and_year letter fs)) entry
+  pub year_turned : (entry : Entry) (r : Refusal) → read.verdict ≡ Err r → Err r ≡ parsed (smallest (area_and_year letter fs)) entry
   year_turned entry r q = turned _ _ entry r verdict q
 
-  pub year_taken : (make : ℕ → Act) → read.verdict ≡ Verdict.Accepted
-      → Parsed.Taken (Entry.On (on read.area (make read.year))) ≡ parsed (smallest (area_and_year letter fs)) (Entry.On (on (value_of (number_at fs 1)) (make (value_of (number_at fs 2)))))
+  pub year_taken : (make : ℕ → Act) → read.verdict ≡ Ok tt
+      → Ok (Entry.On (on read.area (make read.year))) ≡ parsed (smallest (area_and_year letter fs)) (Entry.On (on (value_of (number_at fs 1)) (make (value_of (number_at fs 2)))))
   unfolding area_year area_and_year
   year_taken make clear =
       let none = ruled_out (area_and_year letter fs) (sym verdict ∙ clear) in

@@ -40,14 +40,11 @@ pub fn open_entry(line: &[u8]) -> Parsed
     ensures { result ≡ parsed_by (open_rule (split line.now)) }
 {
     let read = area_and_year(line, b'A');
-    let v = read.verdict;
-    match v {
-        Verdict::Refused(refusal) => Parsed::Refused(refusal),
-        Verdict::Accepted => Parsed::Taken(Entry::On(AreaAct {
-            area: read.area,
-            act: Act::Open { opening: read.year },
-        })),
-    }
+    read.verdict?;
+    Ok(Entry::On(AreaAct {
+        area: read.area,
+        act: Act::Open { opening: read.year },
+    }))
 }
 
 // R,area,last
@@ -55,14 +52,11 @@ pub fn file_entry(line: &[u8]) -> Parsed
     ensures { result ≡ parsed_by (file_rule (split line.now)) }
 {
     let read = area_and_year(line, b'R');
-    let v = read.verdict;
-    match v {
-        Verdict::Refused(refusal) => Parsed::Refused(refusal),
-        Verdict::Accepted => Parsed::Taken(Entry::On(AreaAct {
-            area: read.area,
-            act: Act::File { last: read.year },
-        })),
-    }
+    read.verdict?;
+    Ok(Entry::On(AreaAct {
+        area: read.area,
+        act: Act::File { last: read.year },
+    }))
 }
 
 // W,area
@@ -74,11 +68,9 @@ pub fn withdraw_entry(line: &[u8]) -> Parsed
     let v = line_entry::weigh_letter(line, places, b'W', 2);
     let v = line_entry::weigh_form(v, area);
     let v = line_entry::weigh_area(v, area);
-    match v {
-        Verdict::Refused(refusal) => Parsed::Refused(refusal),
-        Verdict::Accepted => Parsed::Taken(Entry::On(AreaAct {
-            area: text_value::value_u16(area),
-            act: Act::Withdraw,
-        })),
-    }
+    v?;
+    Ok(Entry::On(AreaAct {
+        area: text_value::value_u16(area),
+        act: Act::Withdraw,
+    }))
 }

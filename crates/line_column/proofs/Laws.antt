@@ -1,4 +1,5 @@
 -- All the cells of a line, and room for them.
+use Rattle.std.specs.Prelude.{Ok, Err}
 use Rattle.laws.proofs.{ℕ, ◌-◌, ◌≤◌, ◌≡◌, refl, sym, ap, ◌∙◌, false, List, arith, ltb-false, ltb, length, take, length-drop, drop_of_length-le, replicate, sets}
 use Rattle.laws.specs.{some}
 use Rattle.laws.proofs.Stores.{stored-in_front, stored_stands}
@@ -26,10 +27,10 @@ module _ (fs : List (List ℕ)) (h : length fs ≤ 3) where
 
 -- the front of 101 places in which the cells were kept
 pub kept-front : (fs : List (List ℕ)) (count : ℕ) (kept : List ℕ) → length (cells_of fs) ≤ longest_column → count ≡ length (cells_of fs)
-    → kept ≡ sets (replicate longest_column 0) 0 (tenths_all (cells_of fs)) → take (count - 0) kept ≡ tenths_all (cells_of fs)
+    → kept ≡ sets (replicate longest_column 0) 0 (tenths_all (cells_of fs)) → take count kept ≡ tenths_all (cells_of fs)
 kept-front fs count kept few n q =
     let many = cells_many (cells_of fs) in
-    ap (take (count - 0)) q ∙ stored_stands 0 longest_column (tenths_all (cells_of fs)) (count - 0) (omega (arith, many)) (omega arith)
+    ap (take count) q ∙ stored_stands 0 longest_column (tenths_all (cells_of fs)) count (omega (arith, many)) (omega arith)
 
 -- a line that is accepted has at most 101 cells
 pub few-cells : (fs : List (List ℕ)) → RuledOut (column_rule fs).cases → length (cells_of fs) ≤ longest_column
@@ -43,14 +44,14 @@ room-weighed v own w fs n room p q e = e ∙ simp (p, q)
 
 -- what is read of a line under its own verdict v, by the verdict w that was reached with the room
 module _ (v w : Verdict) (fs : List (List ℕ)) (out : List ℕ) (e : w ≡ readable v fs (length out)) where
-  pub read-refused : (r : Refusal) → w ≡ Verdict.Refused r
-      → (record { verdict = Verdict.Refused r; column = 0; count = 0 } ≡ column_read (readable v fs (length out)) fs)
+  pub read-refused : (r : Refusal) → w ≡ Err r
+      → (record { verdict = Err r; column = 0; count = 0 } ≡ column_read (readable v fs (length out)) fs)
       × (out ≡ buffer_after (readable v fs (length out)) (tenths_all (cells_of fs)) out)
   unfolding buffer_after
   read-refused r k = rw (sym e ∙ k) (refl, refl)
 
-  module _ (k : w ≡ Verdict.Accepted) where
-    pub own_clear : v ≡ Verdict.Accepted
+  module _ (k : w ≡ Ok tt) where
+    pub own_clear : v ≡ Ok tt
     unfolding readable
     own_clear = clear_before v _ Refusal.OutputShort (sym e ∙ k)
 
@@ -59,7 +60,7 @@ module _ (v w : Verdict) (fs : List (List ℕ)) (out : List ℕ) (e : w ≡ read
     cells_fit = ltb-false (length out) (length (cells_of fs)) (clear_last v _ Refusal.OutputShort (sym e ∙ k))
 
     pub read_clear : (column count : ℕ) (kept : List ℕ) → column ≡ column_of fs → count ≡ length (cells_of fs) → kept ≡ sets out 0 (tenths_all (cells_of fs))
-        → (record { verdict = Verdict.Accepted; column = column; count = count } ≡ column_read (readable v fs (length out)) fs)
+        → (record { verdict = (Ok tt); column = column; count = count } ≡ column_read (readable v fs (length out)) fs)
         × (kept ≡ buffer_after (readable v fs (length out)) (tenths_all (cells_of fs)) out)
     unfolding buffer_after
     read_clear column count kept n m q =

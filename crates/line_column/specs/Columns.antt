@@ -1,5 +1,5 @@
 -- "T,kind,type,cells: kind G (stock) or R (residue); type P, D, S, H or N; 1 to 101 cells, each a number with at most one decimal, at most 3000."
-use Rattle.std.specs.Prelude.{◌∷◌}
+use Rattle.std.specs.Prelude.{◌∷◌, Ok, Err}
 use Rattle.laws.specs.{code, ℕ, not, List, [], leb, ltb, length, drop}
 use Rattle.table.specs.{longest_column}
 use Rattle.text.specs.{holds, field_at}
@@ -49,5 +49,5 @@ readable verdict fs room = weighed verdict (ltb room (length (cells_of fs))) Ref
 
 -- what is read of a line's fields: the column's number and how many cells it has; where it is refused, neither
 abbrev pub column_read : Verdict → List (List ℕ) → ReadColumn
-column_read Verdict.Accepted fs = record { verdict = Verdict.Accepted; column = column_of fs; count = length (cells_of fs) }
-column_read (Verdict.Refused refusal) fs = record { verdict = Verdict.Refused refusal; column = 0; count = 0 }
+column_read (Ok _) fs = record { verdict = (Ok tt); column = column_of fs; count = length (cells_of fs) }
+column_read (Err refusal) fs = record { verdict = Err refusal; column = 0; count = 0 }

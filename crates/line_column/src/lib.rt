@@ -31,10 +31,7 @@ const MOST_CELLS: usize = table::LONGEST_COLUMN as usize;
 fn cell_count(count: usize) -> usize
     ensures { result ≡ count - first_cell }
 {
-    if FIRST_CELL < count {
-        return count - FIRST_CELL;
-    }
-    0
+    count.saturating_sub(FIRST_CELL)
 }
 
 fn all_cells(line: &[u8], places: Places, cells: &mut [u16]) -> Cells
@@ -66,7 +63,7 @@ fn judge(line: &[u8], places: Places, kept: &mut [u16]) -> ReadColumn
     let kind = line_entry::letter_in(text_field::field(line, places, 1));
     let named = line_entry::letter_in(text_field::field(line, places, 2));
     let cells = all_cells(line, places, kept);
-    let v = refusals::weigh(Verdict::Accepted, first != b'T', Refusal::Form);
+    let v = refusals::weigh(Ok(()), first != b'T', Refusal::Form);
     let v = refusals::weigh(v, fields <= FIRST_CELL, Refusal::Form);
     let v = refusals::weigh(v, !table_parts::is_kind(kind), Refusal::Form);
     let v = refusals::weigh(v, cells.malformed, Refusal::Form);
@@ -88,24 +85,10 @@ pub fn column_entry(line: &[u8]) -> Parsed
     let places = text_field::scan(line);
     let mut unkept = [0u16; 1];
     let judged = judge(line, places, &mut unkept);
-    let verdict = judged.verdict;
-    match verdict {
-        Verdict::Refused(refusal) => Parsed::Refused(refusal),
-        Verdict::Accepted => Parsed::Taken(Entry::Column {
-            column: judged.column,
-        }),
-    }
-}
-
-fn put_cells(kept: &[u16], cells: &mut [u16])
-    requires { length kept.now ≤ length cells.old }
-    ensures { cells.new ≡ sets cells.old 0 kept.now }
-{
-    let mut i = 0;
-    while i < kept.len() {
-        cells[i] = kept[i];
-        i += 1;
-    }
+    judged.verdict?;
+    Ok(Entry::Column {
+        column: judged.column,
+    })
 }
 
 // Reads the column of a T line's fields, and its cells into lent numbers: all of them, or none where the line is refused.
@@ -121,15 +104,15 @@ pub fn read_column(line: &[u8], cells: &mut [u16]) -> ReadColumn
     let own = judged.verdict;
     let verdict = refusals::weigh(own, cells.len() < count, Refusal::OutputShort);
     match verdict {
-        Verdict::Refused(refusal) => ReadColumn {
-            verdict: Verdict::Refused(refusal),
+        Err(refusal) => ReadColumn {
+            verdict: Err(refusal),
             column: 0,
             count: 0,
         },
-        Verdict::Accepted => {
-            put_cells(&kept[0..count], cells);
+        Ok(()) => {
+            cells[..count].copy_from_slice(&kept[..count]);
             ReadColumn {
-                verdict: Verdict::Accepted,
+                verdict: Ok(()),
                 column,
                 count,
             }

@@ -1,6 +1,6 @@
 -- Rules: what a verdict makes of an entry, and that every letter's table rises, so that what refuses is the smallest number that applies.
+use Rattle.std.specs.Prelude.{Ok, Err, Some, None, Option}
 use Rattle.laws.proofs.{ℕ, ◌≤◌, ◌<◌, ◌≡◌, refl, sym, ap, ◌∙◌, Bool, true, false, lit≤, List, [], ◌∷◌, arith, length, get_or}
-use Rattle.forest.specs.{Named}
 use Rattle.text.specs.{split, field_at}
 use Rattle.text_number.specs.{Number, number_in}
 use Rattle.text_value.specs.{outside, value_of, fitted}
@@ -8,16 +8,17 @@ use Rattle.text_value.proofs.Laws.{fitted_is}
 use Rattle.text_field.specs.{Places, places_of, part}
 use Rattle.text_field.proofs.Laws.{field_found}
 use Rattle.refusals.specs.{Refusal, Verdict}
-use Rattle.line_entry.specs.{Entry, letter_in, number_at, parsed, Parsed}
+use Rattle.forest.specs.{Forest}
+use Rattle.line_entry.specs.{Entry, letter_in, number_at, parsed}
 use Rattle.ranges.specs.{is_bare}
 use Rattle.line_type.specs.{misdated_if, misdated}
 
 -- the verdict w that was reached is the definition's, v
-pub turned : (v w : Verdict) (e : Entry) (r : Refusal) → w ≡ v → w ≡ Verdict.Refused r → Parsed.Refused r ≡ parsed v e
+pub turned : (v w : Verdict) (e : Entry) (r : Refusal) → w ≡ v → w ≡ Err r → Err r ≡ parsed v e
 unfolding parsed
 turned v w e r p q = simp (sym p, q)
 
-pub taken : (v w : Verdict) (e f : Entry) → w ≡ v → w ≡ Verdict.Accepted → f ≡ e → Parsed.Taken f ≡ parsed v e
+pub taken : (v w : Verdict) (e f : Entry) → w ≡ v → w ≡ Ok tt → f ≡ e → Ok f ≡ parsed v e
 unfolding parsed
 taken v w e f p q h = simp (sym p, q, h)
 
@@ -33,16 +34,16 @@ pub value_found : (low high greatest : ℕ) (n m : Number) (v : ℕ) → v ≡ f
 value_found low high greatest n m v e q h i = e ∙ ap (fitted greatest) q ∙ fitted_is low high greatest m h i
 
 -- a year of planting that goes with its type
-pub planted-found : (type : Named) (n m : Number) (v : ℕ) → v ≡ fitted 65535 n → n ≡ m → misdated type m ≡ false → v ≡ value_of m
+pub planted-found : (type : Option Forest) (n m : Number) (v : ℕ) → v ≡ fitted 65535 n → n ≡ m → misdated type m ≡ false → v ≡ value_of m
 planted-found type n m v e q i = go type i
   where
     dated : (bare : Bool) → misdated_if bare m ≡ false → v ≡ value_of m
     dated true i = value_found 0 0 65535 n m v e q (lit≤ tt) i
     dated false i = value_found 1900 2199 65535 n m v e q (lit≤ tt) i
 
-    go : (type : Named) → misdated type m ≡ false → v ≡ value_of m
-    go (Named.Listed forest) i = dated (is_bare forest) i
-    go Named.Unlisted i = dated false i
+    go : (type : Option Forest) → misdated type m ≡ false → v ≡ value_of m
+    go (Some forest) i = dated (is_bare forest) i
+    go None i = dated false i
 
 -- ---- the letter that a field is
 

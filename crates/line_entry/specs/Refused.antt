@@ -1,7 +1,8 @@
 -- The answer to a line that was not read as an entry.
+use Rattle.std.specs.Prelude.{Ok, Err}
 use Rattle.refusals.specs.{Written}
-use Rattle.line_entry.specs.declared.Parsed.{Parsed}
+use Rattle.line_entry.specs.Rules.{Parsed}
 
 abbrev pub refused_by : Parsed → Written
-refused_by (Parsed.Refused refusal) = Written.Refused refusal
-refused_by (Parsed.Taken entry) = Written.Count 0
+refused_by (Err refusal) = Err refusal
+refused_by (Ok entry) = Ok 0

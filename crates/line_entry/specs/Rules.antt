@@ -1,6 +1,6 @@
 -- "Entries" of document 01, letter by letter: the cases in which its fields are refused, by rising number, and the entry otherwise.
 -- The form of the whole line is judged first.
-use Rattle.std.specs.Prelude.{◌||◌, ◌∷◌}
+use Rattle.std.specs.Prelude.{◌||◌, ◌∷◌, Ok, Err, Option, Result}
 use Rattle.laws.specs.{code, ℕ, Bool, not, List, [], eqb, length}
 use Rattle.units.specs.{tenths_of}
 use Rattle.text_value.specs.{malformed, value_of, outside}
@@ -9,12 +9,15 @@ use Rattle.refusals.specs.{Verdict, Case, ◌⇒◌, smallest, Refusal}
 use Rattle.line_entry.specs.declared.Act.{Act}
 use Rattle.line_entry.specs.declared.AreaAct.{AreaAct}
 use Rattle.line_entry.specs.declared.Entry.{Entry}
-use Rattle.line_entry.specs.declared.Parsed.{Parsed}
-use Rattle.forest.specs.{Named, named}
+use Rattle.forest.specs.{Forest, named}
 use Rattle.text.specs.{field_at}
 use Rattle.text_number.specs.{Number, number_in}
 use Rattle.text_decimal.specs.{hectares_in}
 use Rattle.ranges.specs.{last_area, last_sub, first_year, last_year, least_hectares, most_hectares}
+
+-- what a line says: an entry, or why it is none
+abbrev pub Parsed : Type 0
+Parsed = Result Entry Refusal
 
 -- the field at a place, read
 abbrev pub number_at : List (List ℕ) → ℕ → Number
@@ -23,7 +26,7 @@ number_at fs k = number_in (field_at fs k)
 abbrev pub hectares_at : List (List ℕ) → ℕ → Number
 hectares_at fs k = hectares_in (field_at fs k)
 
-abbrev pub type_at : List (List ℕ) → ℕ → Named
+abbrev pub type_at : List (List ℕ) → ℕ → Option Forest
 type_at fs k = named (field_at fs k)
 
 -- "Areas are 1 to 999."
@@ -52,8 +55,8 @@ pub record Rule : Type 0 where
   pub entry : Entry
 
 unfoldable pub parsed : Verdict → Entry → Parsed
-parsed Verdict.Accepted e = Parsed.Taken e
-parsed (Verdict.Refused r) e = Parsed.Refused r
+parsed (Ok _) e = Ok e
+parsed (Err r) e = Err r
 
 -- "The smallest number that applies is given, otherwise none"
 abbrev pub parsed_by : Rule → Parsed

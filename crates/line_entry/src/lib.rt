@@ -1,7 +1,7 @@
 // The entries of a book, and the judging that their letters share.
 #![tactic(auto)]
 
-ghost use Rattle.std.specs.Prelude.{◌≡◌, eqb, not, ◌||◌};
+ghost use Rattle.std.specs.Prelude.{◌≡◌, eqb, not, ◌||◌, Ok};
 ghost use Rattle.text_number.specs.{number_in};
 ghost use Rattle.text_value.specs.{malformed};
 ghost use Rattle.text_field.specs.{part};
@@ -55,20 +55,14 @@ pub enum Entry {
 }
 
 // What a line says.
-#[derive(Clone, Copy)]
-pub enum Parsed {
-    Taken(Entry),
-    Refused(Refusal),
-}
+pub type Parsed = Result<Entry, Refusal>;
 
 // The answer to a line that is no entry: its refusal.
 pub fn refused_by(parsed: Parsed) -> Written
     ensures { result ≡ refused_by parsed }
 {
-    match parsed {
-        Parsed::Refused(refusal) => Written::Refused(refusal),
-        Parsed::Taken(_) => Written::Count(0),
-    }
+    parsed?;
+    Ok(0)
 }
 
 // The letter that a field is, or 0.
@@ -83,15 +77,11 @@ pub fn letter_in(field: &[u8]) -> u8
 
 // 1: another letter in front, or another number of fields.
 pub fn weigh_letter(line: &[u8], places: Places, letter: u8, fields: usize) -> Verdict
-    ensures { result ≡ weighed Verdict.Accepted (not (eqb (letter_in (part line.now places 0)) letter) || not (eqb places.count fields)) Refusal.Form }
+    ensures { result ≡ weighed (Ok tt) (not (eqb (letter_in (part line.now places 0)) letter) || not (eqb places.count fields)) Refusal.Form }
 {
     let first = letter_in(text_field::field(line, places, 0));
     let count = places.count;
-    weigh(
-        Verdict::Accepted,
-        (first != letter) | (count != fields),
-        Refusal::Form,
-    )
+    weigh(Ok(()), (first != letter) | (count != fields), Refusal::Form)
 }
 
 // The number in the field at a place.

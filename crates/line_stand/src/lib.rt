@@ -23,16 +23,14 @@ pub fn clear_entry(line: &[u8]) -> Parsed
     let v = line_entry::weigh_area(v, area);
     let v = line_entry::weigh_sub(v, sub);
     let v = line_entry::weigh_year(v, year);
-    match v {
-        Verdict::Refused(refusal) => Parsed::Refused(refusal),
-        Verdict::Accepted => Parsed::Taken(Entry::On(AreaAct {
-            area: text_value::value_u16(area),
-            act: Act::Clear {
-                sub: text_value::value_u16(sub),
-                year: text_value::value_u16(year),
-            },
-        })),
-    }
+    v?;
+    Ok(Entry::On(AreaAct {
+        area: text_value::value_u16(area),
+        act: Act::Clear {
+            sub: text_value::value_u16(sub),
+            year: text_value::value_u16(year),
+        },
+    }))
 }
 
 // P,area,sub,type,year
@@ -52,15 +50,13 @@ pub fn plant_entry(line: &[u8]) -> Parsed
     let v = line_entry::weigh_sub(v, sub);
     let v = refusals::weigh(v, line_type::is_unplantable(named), Refusal::ForestType);
     let v = line_entry::weigh_year(v, year);
-    match v {
-        Verdict::Refused(refusal) => Parsed::Refused(refusal),
-        Verdict::Accepted => Parsed::Taken(Entry::On(AreaAct {
-            area: text_value::value_u16(area),
-            act: Act::Plant {
-                sub: text_value::value_u16(sub),
-                forest: line_type::forest_of(named),
-                year: text_value::value_u16(year),
-            },
-        })),
-    }
+    v?;
+    Ok(Entry::On(AreaAct {
+        area: text_value::value_u16(area),
+        act: Act::Plant {
+            sub: text_value::value_u16(sub),
+            forest: line_type::forest_of(named),
+            year: text_value::value_u16(year),
+        },
+    }))
 }

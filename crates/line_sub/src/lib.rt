@@ -37,16 +37,14 @@ pub fn add_entry(line: &[u8]) -> Parsed
         line_type::is_misdated(named, planted),
         Refusal::YearRange,
     );
-    match v {
-        Verdict::Refused(refusal) => Parsed::Refused(refusal),
-        Verdict::Accepted => Parsed::Taken(Entry::On(AreaAct {
-            area: text_value::value_u16(area),
-            act: Act::Add {
-                sub: text_value::value_u16(sub),
-                land: units::rounded(text_value::value_u32(hectares)),
-                forest: line_type::forest_of(named),
-                planted: text_value::value_u16(planted),
-            },
-        })),
-    }
+    v?;
+    Ok(Entry::On(AreaAct {
+        area: text_value::value_u16(area),
+        act: Act::Add {
+            sub: text_value::value_u16(sub),
+            land: units::rounded(text_value::value_u32(hectares)),
+            forest: line_type::forest_of(named),
+            planted: text_value::value_u16(planted),
+        },
+    }))
 }

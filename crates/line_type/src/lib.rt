@@ -4,24 +4,21 @@
 ghost use Rattle.std.specs.Prelude.{◌≡◌};
 ghost use Rattle.line_type.specs.{unlisted, unplantable, misdated_if, misdated, forest_of};
 
-use forest::{Forest, Named};
+use forest::Forest;
 use text_number::Number;
 
-pub fn is_unlisted(named: Named) -> bool
+pub fn is_unlisted(named: Option<Forest>) -> bool
     ensures { result ≡ unlisted named }
 {
-    match named {
-        Named::Listed(_) => false,
-        Named::Unlisted => true,
-    }
+    named.is_none()
 }
 
-pub fn is_unplantable(named: Named) -> bool
+pub fn is_unplantable(named: Option<Forest>) -> bool
     ensures { result ≡ unplantable named }
 {
     match named {
-        Named::Listed(forest) => ranges::is_bare(forest),
-        Named::Unlisted => true,
+        Some(forest) => ranges::is_bare(forest),
+        None => true,
     }
 }
 
@@ -39,21 +36,18 @@ fn is_misdated_if(bare: bool, planted: Number) -> bool
     )
 }
 
-pub fn is_misdated(named: Named, planted: Number) -> bool
+pub fn is_misdated(named: Option<Forest>, planted: Number) -> bool
     ensures { result ≡ misdated named planted }
 {
     match named {
-        Named::Listed(forest) => is_misdated_if(ranges::is_bare(forest), planted),
-        Named::Unlisted => is_misdated_if(false, planted),
+        Some(forest) => is_misdated_if(ranges::is_bare(forest), planted),
+        None => is_misdated_if(false, planted),
     }
 }
 
 // The type named, where one is.
-pub fn forest_of(named: Named) -> Forest
+pub fn forest_of(named: Option<Forest>) -> Forest
     ensures { result ≡ forest_of named }
 {
-    match named {
-        Named::Listed(forest) => forest,
-        Named::Unlisted => Forest::Bare,
-    }
+    named.unwrap_or(Forest::Bare)
 }

@@ -1,23 +1,24 @@
 -- What a verdict makes of an answer and of the buffer, and what an answer says of the verdict.
+use Rattle.std.specs.Prelude.{Ok, Err}
 use Rattle.laws.proofs.{ℕ, ◌≡◌, refl, ap, List, ◌++◌, length, drop}
-use Rattle.refusals.specs.{Refusal, Verdict, written, buffer_after, Written}
+use Rattle.refusals.specs.{Refusal, Verdict, written, buffer_after}
 
 module _ (v : Verdict) (numbers buffer : List ℕ) where
-  pub when_turned : (r : Refusal) → v ≡ Verdict.Refused r → (Written.Refused r ≡ written v numbers) × (buffer ≡ buffer_after v numbers buffer)
+  pub when_turned : (r : Refusal) → v ≡ Err r → (Err r ≡ written v numbers) × (buffer ≡ buffer_after v numbers buffer)
   unfolding written buffer_after
   when_turned r e = (rw e, rw e)
 
-  pub when_clear : (n : ℕ) (after : List ℕ) → v ≡ Verdict.Accepted → n ≡ length numbers → after ≡ numbers ++ drop (length numbers) buffer
-      → (Written.Count n ≡ written v numbers) × (after ≡ buffer_after v numbers buffer)
+  pub when_clear : (n : ℕ) (after : List ℕ) → v ≡ Ok tt → n ≡ length numbers → after ≡ numbers ++ drop (length numbers) buffer
+      → (Ok n ≡ written v numbers) × (after ≡ buffer_after v numbers buffer)
   unfolding written buffer_after
-  when_clear n after e k h = (rw e (ap Written.Count k), rw e h)
+  when_clear n after e k h = (rw e (ap Ok k), rw e h)
 
-pub was_turned : (v : Verdict) (numbers : List ℕ) (r : Refusal) → written v numbers ≡ Written.Refused r → v ≡ Verdict.Refused r
+pub was_turned : (v : Verdict) (numbers : List ℕ) (r : Refusal) → written v numbers ≡ Err r → v ≡ Err r
 unfolding written
-was_turned Verdict.Accepted numbers r e = cc
-was_turned (Verdict.Refused s) numbers r e = cc
+was_turned (Ok _) numbers r e = cc
+was_turned (Err s) numbers r e = cc
 
-pub was_clear : (v : Verdict) (numbers : List ℕ) (n : ℕ) → written v numbers ≡ Written.Count n → (v ≡ Verdict.Accepted) × (n ≡ length numbers)
+pub was_clear : (v : Verdict) (numbers : List ℕ) (n : ℕ) → written v numbers ≡ Ok n → (v ≡ Ok tt) × (n ≡ length numbers)
 unfolding written
-was_clear Verdict.Accepted numbers n e = (refl, cc)
-was_clear (Verdict.Refused s) numbers n e = (cc, cc)
+was_clear (Ok _) numbers n e = (refl, cc)
+was_clear (Err s) numbers n e = (cc, cc)

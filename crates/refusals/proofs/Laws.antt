@@ -1,23 +1,24 @@
 -- What a clear verdict says: it was clear before the last case, and that case did not apply; so none of a table applies.
+use Rattle.std.specs.Prelude.{Ok, Err}
 use Rattle.laws.proofs.{ℕ, zero, suc, ◌<◌, Bool, true, false, ◌≡◌, refl, List, [], ◌∷◌, arith, get_or, lit≤}
 use Rattle.refusals.specs.{Refusal, Verdict, number_of, Case, ◌⇒◌, weighed, weigh_all, smallest, and_then}
 
-pub clear_before : (v : Verdict) (b : Bool) (r : Refusal) → weighed v b r ≡ Verdict.Accepted → v ≡ Verdict.Accepted
+pub clear_before : (v : Verdict) (b : Bool) (r : Refusal) → weighed v b r ≡ Ok tt → v ≡ Ok tt
 unfolding weighed
-clear_before (Verdict.Refused s) b r e = e
-clear_before Verdict.Accepted b r e = refl
+clear_before (Err s) b r e = e
+clear_before (Ok _) b r e = refl
 
-pub clear_last : (v : Verdict) (b : Bool) (r : Refusal) → weighed v b r ≡ Verdict.Accepted → b ≡ false
+pub clear_last : (v : Verdict) (b : Bool) (r : Refusal) → weighed v b r ≡ Ok tt → b ≡ false
 unfolding weighed
-clear_last (Verdict.Refused s) true r e = cc
-clear_last (Verdict.Refused s) false r e = refl
-clear_last Verdict.Accepted true r e = cc
-clear_last Verdict.Accepted false r e = refl
+clear_last (Err s) true r e = cc
+clear_last (Err s) false r e = refl
+clear_last (Ok _) true r e = cc
+clear_last (Ok _) false r e = refl
 
 -- two verdicts in a stated order
-pub both_clear : (v w : Verdict) → and_then v w ≡ Verdict.Accepted → (v ≡ Verdict.Accepted) × (w ≡ Verdict.Accepted)
-both_clear Verdict.Accepted w e = (refl, e)
-both_clear (Verdict.Refused r) w e = (e, let z : ◌≡◌ {A = ℕ} 0 1 = cc in absurd (omega arith))
+pub both_clear : (v w : Verdict) → and_then v w ≡ Ok tt → (v ≡ Ok tt) × (w ≡ Ok tt)
+both_clear (Ok _) w e = (refl, e)
+both_clear (Err r) w e = (e, let z : ◌≡◌ {A = ℕ} 0 1 = cc in absurd (omega arith))
 
 -- ---- a clear verdict over a table of cases: none of them applies
 
@@ -25,21 +26,21 @@ both_clear (Verdict.Refused r) w e = (e, let z : ◌≡◌ {A = ℕ} 0 1 = cc in
 abbrev pub RuledOut : List Case → Type 0
 RuledOut cs = (i : ℕ) → (get_or cs i (false ⇒ Refusal.Form)).applies ≡ false
 
-clear_throughout : (v : Verdict) (cs : List Case) → weigh_all v cs ≡ Verdict.Accepted → (v ≡ Verdict.Accepted) × RuledOut cs
+clear_throughout : (v : Verdict) (cs : List Case) → weigh_all v cs ≡ Ok tt → (v ≡ Ok tt) × RuledOut cs
 unfolding weigh_all
 clear_throughout v [] e = (e, λ i. refl)
 clear_throughout v (c ∷ cs) e = both (clear_throughout (weighed v c.applies c.refusal) cs e)
   where
-    both : (weighed v c.applies c.refusal ≡ Verdict.Accepted) × RuledOut cs → (v ≡ Verdict.Accepted) × RuledOut (c ∷ cs)
+    both : (weighed v c.applies c.refusal ≡ Ok tt) × RuledOut cs → (v ≡ Ok tt) × RuledOut (c ∷ cs)
     both rest = (clear_before v c.applies c.refusal rest.0, out)
       where
         out : RuledOut (c ∷ cs)
         out zero = clear_last v c.applies c.refusal rest.0
         out (suc i) = rest.1 i
 
-pub ruled_out : (cs : List Case) → smallest cs ≡ Verdict.Accepted → RuledOut cs
+pub ruled_out : (cs : List Case) → smallest cs ≡ Ok tt → RuledOut cs
 unfolding smallest
-ruled_out cs e = (clear_throughout Verdict.Accepted cs e).1
+ruled_out cs e = (clear_throughout (Ok tt) cs e).1
 
 -- ---- the numbers
 

@@ -1,7 +1,8 @@
 -- In a table of cases whose numbers do not fall, the first case that applies has the smallest number of all that apply:
 -- what stands before it does not apply, and what stands behind it has no smaller number.
+use Rattle.std.specs.Prelude.{Ok, Err}
 use Rattle.laws.proofs.{ℕ, ◌≤◌, Bool, true, false, ◌&&◌, ◌≡◌, refl, sym, ap, ◌∙◌, List, [], ◌∷◌, arith, leb-true, leb}
-use Rattle.refusals.specs.{Refusal, number_of, Case, weighed, weigh_all, smallest, Verdict}
+use Rattle.refusals.specs.{Refusal, number_of, Case, weighed, weigh_all, smallest}
 
 -- no case that applies has a number below n
 unfoldable pub Least : ℕ → List Case → Type 0
@@ -13,7 +14,7 @@ unfoldable pub Rising : ℕ → List Case → Type 0
 Rising n [] = Unit
 Rising n (c ∷ cs) = (n ≤ number_of c.refusal) × Rising (number_of c.refusal) cs
 
-pub turned_stands : (r : Refusal) (cs : List Case) → weigh_all (Verdict.Refused r) cs ≡ Verdict.Refused r
+pub turned_stands : (r : Refusal) (cs : List Case) → weigh_all (Err r) cs ≡ Err r
 unfolding weigh_all weighed
 turned_stands r [] = refl
 turned_stands r (c ∷ cs) = turned_stands r cs
@@ -24,12 +25,12 @@ rising_least m n [] h p = tt
 rising_least m n (c ∷ cs) h p =
     let q = p.0 in ((λ a. omega arith), rising_least m (number_of c.refusal) cs (omega arith) p.1)
 
-pub first_is_smallest : (n : ℕ) (cs : List Case) (r : Refusal) → Rising n cs → smallest cs ≡ Verdict.Refused r → Least (number_of r) cs
+pub first_is_smallest : (n : ℕ) (cs : List Case) (r : Refusal) → Rising n cs → smallest cs ≡ Err r → Least (number_of r) cs
 unfolding smallest weigh_all weighed Least Rising
 first_is_smallest n [] r p e = tt
 first_is_smallest n (c ∷ cs) r p e = go c.applies refl e (first_is_smallest (number_of c.refusal) cs r p.1)
   where
-    go : (x : Bool) → c.applies ≡ x → weigh_all (weighed Verdict.Accepted x c.refusal) cs ≡ Verdict.Refused r → (weigh_all Verdict.Accepted cs ≡ Verdict.Refused r → Least (number_of r) cs)
+    go : (x : Bool) → c.applies ≡ x → weigh_all (weighed (Ok tt) x c.refusal) cs ≡ Err r → (weigh_all (Ok tt) cs ≡ Err r → Least (number_of r) cs)
         → (c.applies ≡ true → number_of r ≤ number_of c.refusal) × Least (number_of r) cs
     go true a e rest =
         let s : c.refusal ≡ r = cc (turned_stands c.refusal cs) in

@@ -1,8 +1,11 @@
 -- Refusals under document 01's numbers ("Turned back by the input", "Turned back by the state") and those of document 02, and the smallest that applies.
-use Rattle.std.specs.Prelude.{◌∷◌}
+use Rattle.std.specs.Prelude.{◌∷◌, Ok, Err, Result}
 use Rattle.laws.specs.{ℕ, Bool, true, false, cond, List, [], leb}
 use Rattle.refusals.specs.declared.Refusal.{Refusal}
-use Rattle.refusals.specs.declared.Verdict.{Verdict}
+
+-- nothing has applied so far, or a refusal has
+abbrev pub Verdict : Type 0
+Verdict = Result Unit Refusal
 
 abbrev pub number_of : Refusal → ℕ
 -- "1 wrong letter or T kind, field count or form .., byte 10 before a line's end, line over 1024 bytes .., or book over 65536"
@@ -55,9 +58,9 @@ b ⇒ r = record { applies = b; refusal = r }
 
 -- one case more: a refusal once given stands
 unfoldable pub weighed : Verdict → Bool → Refusal → Verdict
-weighed (Verdict.Refused first) b r = Verdict.Refused first
-weighed Verdict.Accepted true r = Verdict.Refused r
-weighed Verdict.Accepted false r = Verdict.Accepted
+weighed (Err first) b r = Err first
+weighed (Ok _) true r = Err r
+weighed (Ok _) false r = Ok tt
 
 unfoldable pub weigh_all : Verdict → List Case → Verdict
 weigh_all v [] = v
@@ -65,15 +68,15 @@ weigh_all v (c ∷ cs) = weigh_all (weighed v c.applies c.refusal) cs
 
 -- "The smallest number that applies is given, otherwise none": the first that applies, of cases in rising order
 unfoldable pub smallest : List Case → Verdict
-smallest cs = weigh_all Verdict.Accepted cs
+smallest cs = weigh_all (Ok tt) cs
 
 -- of two verdicts in a stated order, the first refusal
 abbrev pub and_then : Verdict → Verdict → Verdict
-and_then Verdict.Accepted next = next
-and_then (Verdict.Refused refusal) next = Verdict.Refused refusal
+and_then (Ok _) next = next
+and_then (Err refusal) next = Err refusal
 
 -- of two verdicts the refusal with the smaller number
 abbrev pub smaller : Verdict → Verdict → Verdict
-smaller Verdict.Accepted other = other
-smaller (Verdict.Refused r) Verdict.Accepted = Verdict.Refused r
-smaller (Verdict.Refused r) (Verdict.Refused s) = cond (leb (number_of r) (number_of s)) (Verdict.Refused r) (Verdict.Refused s)
+smaller (Ok _) other = other
+smaller (Err r) (Ok _) = Err r
+smaller (Err r) (Err s) = cond (leb (number_of r) (number_of s)) (Err r) (Err s)

@@ -1,4 +1,5 @@
 -- An export has at most 42 bytes and 3 for each byte of its book and one more, since a row has at most 3 bytes for each byte of its line and its end.
+use Rattle.std.specs.Prelude.{Ok, Err}
 use Rattle.laws.proofs.{ℕ, ◌*◌, ◌≤◌, ◌≡◌, refl, ap, Bool, true, false, cond, List, [], ◌∷◌, append-nil, arith, length, length-append, ltb-false}
 use Rattle.laws.specs.{sum_by}
 use Rattle.text.specs.{join, join_after}
@@ -20,9 +21,9 @@ unfolding exported_row sheet_text texts
 line_few run line = go (line_taken run.own run.holding line).verdict (is_addition (entry_of line)) refl
   where
     go : (v : Verdict) (x : Bool) → is_addition (entry_of line) ≡ x → length (texts row_text (cond (if_accepted v x false) (row_of line ∷ []) [])) ≤ most_for_byte * weight line
-    go Verdict.Accepted true e = omega (arith, ap length (append-nil (row_text (row_of line))), addition_few line e)
-    go Verdict.Accepted false e = omega arith
-    go (Verdict.Refused r) x e = omega arith
+    go (Ok _) true e = omega (arith, ap length (append-nil (row_text (row_of line))), addition_few line e)
+    go (Ok _) false e = omega arith
+    go (Err r) x e = omega arith
 
 lines_few : (run : Run) (lines : List (List ℕ)) → length (sheet_text (exported_from run lines)) ≤ most_for_byte * sum_by weight lines
 unfolding exported_from sheet_text texts sum_by
@@ -55,5 +56,5 @@ export_at_most book h =
     )
 
 -- so an export that is not refused has few bytes
-pub export_few : (book : List ℕ) → export_weighed book ≡ Verdict.Accepted → length (export_of book) ≤ export_room
+pub export_few : (book : List ℕ) → export_weighed book ≡ Ok tt → length (export_of book) ≤ export_room
 export_few book clear = export_at_most book (ltb-false longest_book (length book) (ruled_out _ clear 0))

@@ -1,5 +1,6 @@
 -- The heading, and the rows of all lines, are the export; it is short of the greatest place, so that a measure is its length, and where
 -- there is room for any no measure is needed.
+use Rattle.std.specs.Prelude.{Ok, Err}
 use Rattle.laws.proofs.{ℕ, ◌≤◌, ◌<◌, ◌≡◌, refl, List, ◌++◌, arith, lt-ltb, le-ltb, length}
 use Rattle.text.specs.{Wrote, greatest}
 use Rattle.statement_format.specs.{texts}
@@ -19,7 +20,7 @@ module _ (book : List ℕ) where
   unfolding export_of export_rows sheet_text texts
   export_whole = refl
 
-  pub too_long : longest_book < length book → export_weighed book ≡ Verdict.Refused Refusal.Form
+  pub too_long : longest_book < length book → export_weighed book ≡ Err Refusal.Form
   unfolding smallest weigh_all weighed
   too_long h = simp (lt-ltb longest_book (length book) h)
 
@@ -28,7 +29,7 @@ module _ (book : List ℕ) where
   printed-over h = simp (lt-ltb longest_book (length book) h)
 
   module _ (short : length book ≤ longest_book) where
-    pub weighed_clear : export_weighed book ≡ Verdict.Accepted
+    pub weighed_clear : export_weighed book ≡ Ok tt
     unfolding smallest weigh_all weighed
     weighed_clear = simp (le-ltb longest_book (length book) short)
 
@@ -40,6 +41,6 @@ module _ (book : List ℕ) where
     bounded = omega (arith, export_at_most book short)
 
     module _ {buffer after : List ℕ} {n : ℕ} (w : Wrote buffer 0 (export_of book) after n) (room : export_room ≤ length buffer) where
-      pub unmeasured : (Written.Count n ≡ written (writable (export_of book) (length buffer)) (export_of book))
+      pub unmeasured : (Ok n ≡ written (writable (export_of book) (length buffer)) (export_of book))
           × (after ≡ buffer_after (writable (export_of book) (length buffer)) (export_of book) buffer)
       unmeasured = accepted (export_of book) n w bounded buffer after n (omega (arith, w.place, export_at_most book short)) w

@@ -38,15 +38,15 @@ fn write_export(book: &[u8], out: &mut [u8]) -> Written
 {
     if ROOM <= out.len() {
         let count = put_export(book, out);
-        return Written::Count(count);
+        return Ok(count);
     }
     let mut unkept = [0u8; 1];
     let need = put_export(book, &mut unkept);
     if out.len() < need {
-        return Written::Refused(Refusal::OutputShort);
+        return Err(Refusal::OutputShort);
     }
     let count = put_export(book, out);
-    Written::Count(count)
+    Ok(count)
 }
 
 // Writes the export of a book to the front of `out`: how many bytes, or why nothing is written.
@@ -54,7 +54,7 @@ pub fn export(book: &[u8], out: &mut [u8]) -> Written
     ensures { Gives (export_weighed book.now) (export_of book.now) out.old result out.new }
 {
     if LONGEST_BOOK < book.len() {
-        return Written::Refused(Refusal::Form);
+        return Err(Refusal::Form);
     }
     write_export(book, out)
 }

@@ -1,11 +1,12 @@
 -- A row's line: what was put into the room for a line is the line where it fits, and a line that does not fit is too long to be an entry. Its letter is S,
 -- so that it is read as no column.
+use Rattle.std.specs.Prelude.{Ok, Err}
 use Rattle.laws.proofs.{ℕ, ◌+◌, ◌-◌, ◌≤◌, ◌<◌, ◌≡◌, sym, ap, ◌∙◌, List, [], ◌∷◌, ◌++◌, arith, length, take, drop, replicate, length-append, length-replicate}
 use lib.Seq.{take_at}
 use Rattle.text.specs.{comma, line_end, Wrote}
 use Rattle.text.proofs.Writes.{wrote_is, wrote-next, wrote-length}
 use Rattle.refusals.specs.{Refusal}
-use Rattle.line_entry.specs.{Entry, Parsed}
+use Rattle.line_entry.specs.{Entry}
 use Rattle.line.specs.{longest, letter_of, is_column_line, entry_of}
 use Rattle.line.proofs.Laws.{ended_body, too_long}
 use Rattle.line.proofs.Columns.{column_named}
@@ -22,7 +23,7 @@ module _ (joined : List ℕ) where
   line = inner ++ (line_end ∷ [])
 
   -- an S line is no T line
-  pub no_column_lem : (column : ℕ) → entry_of line ≡ Parsed.Taken (Entry.Column column) → ⊥
+  pub no_column_lem : (column : ℕ) → entry_of line ≡ Ok (Entry.Column column) → ⊥
   unfolding is_column_line letter_of
   no_column_lem column e =
       let named = rw (ended_body inner) at (column_named line column e) in
@@ -30,7 +31,7 @@ module _ (joined : List ℕ) where
 
   -- the line put from the front of the room
   module _ (after : List ℕ) (end : ℕ) (w : Wrote room 0 line after end) where
-    pub line_long : longest + 1 < end → Parsed.Refused Refusal.Form ≡ entry_of line
+    pub line_long : longest + 1 < end → Err Refusal.Form ≡ entry_of line
     line_long h = too_long line inner (sym (ended_body inner)) (omega (arith, w.place, length-append inner (line_end ∷ [])))
 
     module _ (h : end ≤ longest + 1) where

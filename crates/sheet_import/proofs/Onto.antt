@@ -1,6 +1,7 @@
 -- What an import onto a statement answers and writes, by what the statement was read as and what the sheet came to.
-use Rattle.laws.proofs.{ℕ, ◌+◌, ◌*◌, ◌≤◌, ◌<◌, ◌≡◌, refl, sym, ap, ◌∙◌, Bool, true, false, ◌&&◌, List, ◌++◌, append_assoc, append-nil, ◌⊎◌, inl, inr, ⊎_elim, arith, ltb, ltb-true, ltb-false, length, take}
-use Rattle.laws.proofs.Lists.{and_left, and_right}
+use Rattle.std.specs.Prelude.{Ok, Err}
+use Rattle.laws.proofs.{ℕ, ◌*◌, ◌≤◌, ◌<◌, ◌≡◌, refl, sym, ap, ◌∙◌, Bool, true, false, ◌&&◌, List, ◌++◌, append_assoc, append-nil, ◌⊎◌, inl, inr, ⊎_elim, arith, ltb, ltb-true, ltb-false, length, take, min}
+use Rattle.laws.proofs.Order.{below_or_not}
 use Rattle.refusals.specs.{Refusal, Verdict, and_then}
 use Rattle.holding.specs.{Holding, most_areas, areas_of}
 use Rattle.statement_format.specs.{start_text, number_text, joined, texts, area_text, statement_of, area_width, statement_width}
@@ -11,11 +12,11 @@ use Rattle.statement.specs.{Read, read_of}
 use Rattle.sheet_import.specs.{Imported, import_onto, first_text, first_width, onto_verdict, onto_bytes}
 
 module _ (own statement sheet : List ℕ) where
-  pub onto_turned : (refusal : Refusal) → (read_of statement).verdict ≡ Verdict.Refused refusal → onto_verdict own statement sheet ≡ Verdict.Refused refusal
+  pub onto_turned : (refusal : Refusal) → (read_of statement).verdict ≡ Err refusal → onto_verdict own statement sheet ≡ Err refusal
   unfolding onto_verdict
   onto_turned refusal e = ap (λ (v : Verdict). and_then v (import_onto own (read_of statement).holding sheet).verdict) e
 
-  module _ (given : Holding) (r : read_of statement ≡ record { verdict = Verdict.Accepted; holding = given }) (imported : Imported)
+  module _ (given : Holding) (r : read_of statement ≡ record { verdict = (Ok tt); holding = given }) (imported : Imported)
       (i : imported ≡ import_onto own given sheet) where
     pub onto_verdict_lem : onto_verdict own statement sheet ≡ imported.verdict
     unfolding onto_verdict
@@ -28,17 +29,9 @@ module _ (own statement sheet : List ℕ) where
 
 -- ---- the new statement, an area a turn
 
--- a turn is within the areas that stand, and after the last all of them are put
-pub within : (i count : ℕ) → (ltb i most_areas && ltb i count) ≡ true → (i < most_areas) × (i < count)
-within i count e = (ltb-true _ _ (and_left (ltb i most_areas) (ltb i count) e), ltb-true _ _ (and_right (ltb i most_areas) (ltb i count) e))
-
-past : (i count : ℕ) → (ltb i most_areas && ltb i count) ≡ false → (most_areas ≤ i) ⊎ (count ≤ i)
-past i count e = go (ltb i most_areas) refl (ltb i count) refl
-  where
-    go : (a : Bool) → ltb i most_areas ≡ a → (b : Bool) → ltb i count ≡ b → (most_areas ≤ i) ⊎ (count ≤ i)
-    go false f b g = inl (ltb-false _ _ f)
-    go true f false g = inr (ltb-false _ _ g)
-    go true f true g = absurd (let z : ◌≡◌ {A = ℕ} 0 1 = cc in omega arith)
+-- after the last turn all that stand are put
+past : (i count : ℕ) → min count most_areas ≤ i → (most_areas ≤ i) ⊎ (count ≤ i)
+past i count h = ⊎_elim (λ p. inl (omega arith)) (λ q. inr (omega arith)) (below_or_not most_areas count)
 
 module _ (holding : Holding) (long : length holding.areas ≡ most_areas) where
   whole : {l m o : List ℕ} {at p next i : ℕ} → Put first_width l at (first_text holding.count) m p → Put (area_width * i) m p (texts area_text (areas_of holding)) o next
@@ -51,7 +44,7 @@ module _ (holding : Holding) (long : length holding.areas ≡ most_areas) where
       (put_within (omega arith) (put_then first areas))
 
   pub all_put : {l m o : List ℕ} {at p next i : ℕ} → Put first_width l at (first_text holding.count) m p
-      → Put (area_width * i) m p (texts area_text (take i (areas_of holding))) o next → i ≤ most_areas → (ltb i most_areas && ltb i holding.count) ≡ false
+      → Put (area_width * i) m p (texts area_text (take i (areas_of holding))) o next → i ≤ most_areas → min holding.count most_areas ≤ i
       → Put statement_width l at (statement_of holding) o next
   all_put {i = i} first areas h e =
       ⊎_elim

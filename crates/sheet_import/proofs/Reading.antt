@@ -1,12 +1,13 @@
 -- A statement read area by area and judged as it is read: the areas so far, the numbers that they bear and whether a statement carries each of them. At the
 -- end the tests are the statement's own.
+use Rattle.std.specs.Prelude.{Ok, Err}
 use Rattle.laws.proofs.{ℕ, ◌+◌, ◌-◌, ◌≤◌, ◌<◌, ◌≡◌, refl, sym, ap, ◌∙◌, Bool, true, false, ◌&&◌, List, [], ◌∷◌, ◌++◌, arith, add-one, eqb, ltb, le-leb, length, take, set, replicate, length-set}
 use lib.Seq.{take-suc-set}
 use Rattle.laws.specs.{every, distinct, all_of}
 use Rattle.laws.proofs.Standing.{take-map, map-set}
 use Rattle.laws.proofs.Turns.{and_none, and_assoc}
 use Rattle.laws.proofs.Distinct.{distinct_borne}
-use Rattle.refusals.specs.{Refusal, Verdict}
+use Rattle.refusals.specs.{Refusal}
 use Rattle.holding.specs.{Area, Holding, most_areas, empty_area, empty_holding, numbers_in}
 use Rattle.statement_carried.specs.{area_carried, carried, carried_within}
 use Rattle.statement_cursor.specs.{NumberField, number_at, start_at}
@@ -84,11 +85,11 @@ module _ (s : List ℕ) (head : NumberField) (h : head ≡ number_at s (start_at
         ∙ ap (λ (b : Bool). (ltb 0 next && eqb next (length s)) && b) (sym carries)
         ∙ ap (accepts s) read_is
 
-    pub read_clear : (((ltb 0 next && eqb next (length s)) && kept) && apart) ≡ true → read_of s ≡ record { verdict = Verdict.Accepted; holding = standing }
+    pub read_clear : (((ltb 0 next && eqb next (length s)) && kept) && apart) ≡ true → read_of s ≡ record { verdict = (Ok tt); holding = standing }
     unfolding read_within
     read_clear e =
-        sym (taken s (holding_at s) (sym tested ∙ e)) ∙ ap (λ (x : HoldingRead). record { verdict = Verdict.Accepted; holding = x.holding }) (sym read_is)
+        sym (taken s (holding_at s) (sym tested ∙ e)) ∙ ap (λ (x : HoldingRead). record { verdict = (Ok tt); holding = x.holding }) (sym read_is)
 
-    pub read-turned : (((ltb 0 next && eqb next (length s)) && kept) && apart) ≡ false → (read_of s).verdict ≡ Verdict.Refused Refusal.CarriedStatement
+    pub read-turned : (((ltb 0 next && eqb next (length s)) && kept) && apart) ≡ false → (read_of s).verdict ≡ Err Refusal.CarriedStatement
     unfolding read_within
     read-turned e = ap (λ (x : Read). x.verdict) (sym (refused s (holding_at s) empty_holding refl (sym tested ∙ e)))

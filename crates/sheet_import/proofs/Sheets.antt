@@ -1,20 +1,21 @@
 -- A sheet is refused before its rows, or its rows behind the heading are taken: a sheet that is not refused has a first row.
-use Rattle.laws.proofs.{ℕ, zero, ◌+◌, ◌≤◌, ◌<◌, ◌≡◌, refl, sym, ap, ◌∙◌, true, false, not, List, [], ◌∷◌, ⊎_elim, arith, length, drop, not-false}
+use Rattle.std.specs.Prelude.{Ok, Err}
+use Rattle.laws.proofs.{ℕ, ◌+◌, ◌<◌, ◌≡◌, sym, ap, ◌∙◌, true, List, ⊎_elim, arith, length, drop, not-false}
 use Rattle.laws.proofs.Order.{below_or_not}
 use Rattle.refusals.specs.{Refusal, Verdict}
 use Rattle.refusals.proofs.Laws.{ruled_out}
 use Rattle.holding.specs.{Holding}
-use Rattle.sheet_read.specs.{Reading, Row, rows_of, width_from}
+use Rattle.sheet_read.specs.{Reading, rows_of, width_from}
 use Rattle.sheet_read.proofs.Joined.{first_row, rows_none}
 use Rattle.sheet_judge.specs.{regular, sheet_verdict}
-use Rattle.sheet_import.specs.{Imported, sheet_rows, imported_if, import_rows, import_onto}
+use Rattle.sheet_import.specs.{Imported, sheet_rows, import_rows, import_onto}
 
 module _ (own : List ℕ) (holding : Holding) (sheet : List ℕ) (v : Verdict) (e : v ≡ sheet_verdict sheet) where
-  pub sheet_refused : (refusal : Refusal) → v ≡ Verdict.Refused refusal → record { verdict = Verdict.Refused refusal; holding = holding } ≡ import_onto own holding sheet
+  pub sheet_refused : (refusal : Refusal) → v ≡ Err refusal → record { verdict = Err refusal; holding = holding } ≡ import_onto own holding sheet
   unfolding import_onto
   sheet_refused refusal r = rw (sym e ∙ r)
 
-  module _ (clear : v ≡ Verdict.Accepted) where
+  module _ (clear : v ≡ Ok tt) where
     -- it has a row
     some : 0 < length sheet
     unfolding sheet_verdict regular

@@ -1,6 +1,6 @@
 -- "Import one heading row .., then rows of those five fields, and turn them into S entries in row order, added to a holding. .. A sheet is taken entire or
 -- not at all." `own` is the participant's table.
-use Rattle.std.specs.Prelude.{◌∷◌, ◌++◌}
+use Rattle.std.specs.Prelude.{◌∷◌, ◌++◌, Ok, Err}
 use Rattle.laws.specs.{code, ℕ, List, [], drop}
 use Rattle.refusals.specs.{Verdict}
 use Rattle.text.specs.{comma, line_end, join}
@@ -25,12 +25,12 @@ pub record Imported : Type 0 where
 
 -- a refusal, and the holding that was given
 abbrev pub imported_if : Verdict → Holding → Imported → Imported
-imported_if Verdict.Accepted given imported = imported
-imported_if (Verdict.Refused refusal) given imported = record { verdict = Verdict.Refused refusal; holding = given }
+imported_if (Ok _) given imported = imported
+imported_if (Err refusal) given imported = record { verdict = Err refusal; holding = given }
 
 -- rows in order, each on the holding that the earlier ones left; the first that is turned down turns them all down
 unfoldable pub import_rows : List ℕ → (given holding : Holding) → List Row → Imported
-import_rows own given holding [] = record { verdict = Verdict.Accepted; holding = holding }
+import_rows own given holding [] = record { verdict = (Ok tt); holding = holding }
 import_rows own given holding (row ∷ rows) =
     let outcome = row_taken own holding row in imported_if outcome.verdict given (import_rows own given (placed holding outcome) rows)
 

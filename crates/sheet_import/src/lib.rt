@@ -6,10 +6,10 @@ ghost use Rattle.statement_field.specs.{Put};
 ghost use Rattle.call_output.specs.{Gives};
 ghost use Rattle.sheet_import.specs.{ReadsRow, first_text, first_width, onto_verdict, onto_bytes};
 
-use holding::{Found, MOST_AREAS};
+use holding::MOST_AREAS;
 use holding_look::Looked;
 use line_entry::{Entry, Parsed};
-use refusals::{Refusal, Verdict, Written};
+use refusals::{Refusal, Written};
 use statement_parse::AREAS_READ;
 
 // Room for the longest line that may be an entry, and for its end.
@@ -33,7 +33,7 @@ fn read_row(sheet: &[u8], at: usize) -> RowRead
     let end = text::put_byte(&mut line, row.end, b'\n');
     if LINE_ROOM < end {
         return RowRead {
-            parsed: Parsed::Refused(Refusal::Form),
+            parsed: Err(Refusal::Form),
             next: row.next,
         };
     }
@@ -63,34 +63,30 @@ pub fn import(own: &[u16], statement: &[u8], sheet: &[u8], out: &mut [u8]) -> Wr
     let mut numbers = [0u16; MOST_AREAS];
     let mut kept = true;
     let mut next = head.next;
-    let mut i: usize = 0;
-    while i < count {
+    for i in 0..count {
         let read = statement_parse::read_area(statement, next);
         let area = read.area;
         kept = kept & statement_judge::area(area);
         numbers[i] = area.number;
         areas[i] = area;
         next = read.next;
-        i += 1;
     }
     let apart = statement_distinct::numbers(&numbers[0..count]);
     if !((0 < next) & (next == statement.len()) & kept & apart) {
-        return Written::Refused(Refusal::CarriedStatement);
+        return Err(Refusal::CarriedStatement);
     }
-    let sheet_verdict = sheet_judge::judge(sheet);
-    if let Verdict::Refused(refusal) = sheet_verdict {
-        return Written::Refused(refusal);
-    }
+    sheet_judge::judge(sheet)?;
     let default = schedules::schedule_six();
     let mut unkept = [0u8; 1];
     let heading = read_row(sheet, 0);
     let mut looked = Looked {
         number: 0,
         count,
-        found: Found::Nowhere,
+        found: None,
         area: holding::empty_area(),
     };
     let mut at = heading.next;
+    // A row ends where its reader says, so that a place is kept and no iterator.
     while at < sheet.len() {
         let row = read_row(sheet, at);
         let parsed = row.parsed;
@@ -100,26 +96,18 @@ pub fn import(own: &[u16], statement: &[u8], sheet: &[u8], out: &mut [u8]) -> Wr
         looked.count = count;
         looked.found = found;
         looked.area = holding::empty_area();
-        if let Found::At(k) = found {
+        if let Some(k) = found {
             if k < MOST_AREAS {
                 looked.area = areas[k];
             }
         }
-        let Parsed::Taken(entry) = parsed else {
-            return line_entry::refused_by(parsed);
-        };
         // No row is read as a column.
-        let Entry::On(on) = entry else {
-            return Written::Refused(Refusal::Form);
+        let Entry::On(on) = parsed? else {
+            return Err(Refusal::Form);
         };
-        let act = on.act;
-        let outcome = step::apply_to(own, &default, looked, act);
-        let verdict = outcome.verdict;
-        if let Verdict::Refused(refusal) = verdict {
-            return Written::Refused(refusal);
-        }
-        let place = outcome.place;
-        if let Found::At(k) = place {
+        let outcome = step::apply_to(own, &default, looked, on.act);
+        outcome.verdict?;
+        if let Some(k) = outcome.place {
             let area = outcome.area;
             if k < MOST_AREAS {
                 areas[k] = area;
@@ -130,21 +118,18 @@ pub fn import(own: &[u16], statement: &[u8], sheet: &[u8], out: &mut [u8]) -> Wr
         at = row.next;
     }
     let mut need = put_first(&mut unkept, 0, count);
-    let mut j: usize = 0;
-    while (j < MOST_AREAS) & (j < count) {
+    let standing = count.min(MOST_AREAS);
+    for j in 0..standing {
         looked.area = areas[j];
         need = statement_write::put_area(&mut unkept, need, looked.area);
-        j += 1;
     }
     if out.len() < need {
-        return Written::Refused(Refusal::OutputShort);
+        return Err(Refusal::OutputShort);
     }
     let mut end = put_first(out, 0, count);
-    let mut k: usize = 0;
-    while (k < MOST_AREAS) & (k < count) {
+    for k in 0..standing {
         looked.area = areas[k];
         end = statement_write::put_area(out, end, looked.area);
-        k += 1;
     }
-    Written::Count(end)
+    Ok(end)
 }

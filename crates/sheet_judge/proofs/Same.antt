@@ -1,5 +1,6 @@
 -- Bytes and rows that are found the same are the same.
-use Rattle.laws.proofs.{ℕ, ◌+◌, ◌≤◌, ◌<◌, ◌≡◌, refl, sym, Bool, true, ◌&&◌, List, [], ◌∷◌, add-one, eqb, length, get_or, drop, drop-cons, drop_of_length-le, eqb-true}
+use Rattle.laws.proofs.{ℕ, ◌≡◌, refl, sym, ap, Bool, true, ◌&&◌, List, [], ◌∷◌, eqb, eqb-true}
+use lib.Pointwise.{pointwise}
 use Rattle.laws.proofs.Elements.{clash}
 use Rattle.laws.proofs.Lists.{and_left, and_right}
 use Rattle.sheet_read.specs.{Row}
@@ -21,12 +22,10 @@ same_bytes_lem = same_by_lem eqb eqb-true
 pub same_row_lem : (fs gs : Row) → same_row fs gs ≡ true → fs ≡ gs
 same_row_lem = same_by_lem same_bytes same_bytes_lem
 
--- a byte at a time
-module _ (bs cs : List ℕ) (i : ℕ) where
-  pub same-on : i < length bs → i < length cs → same_bytes (drop i bs) (drop i cs) ≡ (eqb (get_or bs i 0) (get_or cs i 0) && same_bytes (drop (i + 1) bs) (drop (i + 1) cs))
-  unfolding same_by
-  same-on h k = rw (add-one, drop-cons bs i 0 h, drop-cons cs i 0 k)
-
-  pub same_ends : length bs ≤ i → length cs ≤ i → same_bytes (drop i bs) (drop i cs) ≡ true
-  unfolding same_by
-  same_ends h k = rw (drop_of_length-le bs h, drop_of_length-le cs k)
+-- what the library finds of two lists is the same
+pub pointwise_same : {A : Type 0} (same : A → A → Bool) (l m : List A) → pointwise same l m ≡ same_by same l m
+unfolding same_by
+pointwise_same same [] [] = refl
+pointwise_same same [] (b ∷ m) = refl
+pointwise_same same (a ∷ l) [] = refl
+pointwise_same same (a ∷ l) (b ∷ m) = ap (λ (rest : Bool). same a b && rest) (pointwise_same same l m)

@@ -1,8 +1,9 @@
 -- The verdict tried on sheets: antt computes each.
+use Rattle.std.specs.Prelude.{Ok, Err}
 use Rattle.laws.proofs.{ℕ, ◌≡◌, refl, List, [], ◌∷◌, ◌++◌, drop}
 use Rattle.laws.specs.{code, every, map}
 use Rattle.text.specs.{comma, extend, join, join_after}
-use Rattle.refusals.specs.{Refusal, Verdict, weighed, weigh_all, smallest}
+use Rattle.refusals.specs.{Refusal, weighed, weigh_all, smallest}
 use Rattle.sheet_read.specs.{quote, carriage_return as cr, line_feed as lf, after_field, plain_at, begins_at, turned, reading_after, sound, in_front, field_in_front, marked, rows_from, rows_of}
 use Rattle.sheet_judge.specs.{heading_row, regular, sheet_verdict, same_by}
 
@@ -16,7 +17,7 @@ accepted : map sheet_verdict
     ∷ (quote ∷ code "a" ∷ code "r" ∷ code "e" ∷ code "a" ∷ quote ∷ drop 4 heading)
     ∷ (heading ++ comma ∷ comma ∷ comma ∷ comma ∷ [])
     ∷ [])
-    ≡ Verdict.Accepted ∷ Verdict.Accepted ∷ Verdict.Accepted ∷ Verdict.Accepted ∷ []
+    ≡ Ok tt ∷ (Ok tt) ∷ (Ok tt) ∷ (Ok tt) ∷ []
 unfolding sheet_verdict smallest weigh_all weighed regular same_by every sound reading_after rows_of rows_from turned begins_at plain_at after_field marked in_front field_in_front extend join join_after
 accepted = refl
 
@@ -28,16 +29,16 @@ not_regular : map sheet_verdict
     ∷ (heading ++ comma ∷ comma ∷ comma ∷ comma ∷ comma ∷ [])
     ∷ (heading ++ cr ∷ lf ∷ [])
     ∷ [])
-    ≡ Verdict.Refused Refusal.SheetRow
-    ∷ Verdict.Refused Refusal.SheetRow
-    ∷ Verdict.Refused Refusal.SheetRow
-    ∷ Verdict.Refused Refusal.SheetRow
-    ∷ Verdict.Refused Refusal.SheetRow
+    ≡ Err Refusal.SheetRow
+    ∷ Err Refusal.SheetRow
+    ∷ Err Refusal.SheetRow
+    ∷ Err Refusal.SheetRow
+    ∷ Err Refusal.SheetRow
     ∷ []
 unfolding sheet_verdict smallest weigh_all weighed regular same_by every sound reading_after rows_of rows_from turned begins_at plain_at after_field marked in_front field_in_front extend join join_after
 not_regular = refl
 
 -- a row end that is broken comes before a row without five fields
-form_first : sheet_verdict (heading ++ comma ∷ lf ∷ []) ≡ Verdict.Refused Refusal.SheetForm
+form_first : sheet_verdict (heading ++ comma ∷ lf ∷ []) ≡ Err Refusal.SheetForm
 unfolding sheet_verdict smallest weigh_all weighed regular same_by every sound reading_after rows_of rows_from turned begins_at plain_at after_field marked in_front field_in_front extend join join_after
 form_first = refl

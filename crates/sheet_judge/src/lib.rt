@@ -1,13 +1,13 @@
 // What refuses a sheet before any of its rows is taken.
 #![tactic(auto)]
 
-ghost use Rattle.std.specs.Prelude.{◌≡◌, length, drop};
+ghost use Rattle.std.specs.Prelude.{◌≡◌, drop};
 ghost use Rattle.laws.specs.{every};
 ghost use Rattle.text.specs.{join};
 ghost use Rattle.sheet_read.specs.{rows_of};
 ghost use Rattle.sheet_judge.specs.{heading_row, five_fields, same_bytes, regular, sheet_verdict};
 
-use refusals::{Refusal, Verdict};
+use refusals::{Refusal, Verdict, refuse_if};
 
 // How many fields a row has, and how many bytes the heading.
 const FIELDS: usize = 5;
@@ -16,17 +16,9 @@ const HEADING_WIDTH: usize = 30;
 
 // Whether bytes are the heading's fields, joined.
 fn is_heading(bytes: &[u8; HEADING_WIDTH]) -> bool
-    requires { length bytes.now ≡ length (join heading_row) }
     ensures { result ≡ same_bytes bytes.now (join heading_row) }
 {
-    let names = b"area,sub,hectares,type,planted";
-    let mut same = true;
-    let mut i: usize = 0;
-    while i < HEADING_WIDTH {
-        same = same & (bytes[i] == names[i]);
-        i += 1;
-    }
-    same
+    bytes == b"area,sub,hectares,type,planted"
 }
 
 // Whether each row from a row's start on has five fields: they are put past the end of a buffer, and so only counted.
@@ -34,14 +26,16 @@ fn all_five(sheet: &[u8], start: usize) -> bool
     ensures { result ≡ every five_fields (rows_of (drop start sheet.now)) }
 {
     let mut unkept = [0u8; 1];
-    let mut five = true;
     let mut i = start;
+    // Each turn goes on by the width of a row, so that no `for` stands here.
     while i < sheet.len() {
         let row = sheet_read::put_joined(sheet, i, &mut unkept, 1);
-        five = five & (row.fields == FIELDS);
+        if row.fields != FIELDS {
+            return false;
+        }
         i = row.next;
     }
-    five
+    true
 }
 
 // Whether the first row is the heading, and each further row has five fields.
@@ -60,6 +54,6 @@ pub fn judge(sheet: &[u8]) -> Verdict
 {
     let sound = sheet_read::is_sound(sheet);
     let regular = is_regular(sheet);
-    let verdict = refusals::weigh(Verdict::Accepted, !sound, Refusal::SheetForm);
-    refusals::weigh(verdict, !regular, Refusal::SheetRow)
+    refuse_if(!sound, Refusal::SheetForm)?;
+    refuse_if(!regular, Refusal::SheetRow)
 }

@@ -20,13 +20,13 @@ abbrev pub row_at : ℕ → ℕ → ℕ → JoinedRow
 row_at next fields end = record { next = next; fields = fields; end = end }
 
 -- nothing is left at the end of the sheet
-pub left_none : (s : List ℕ) (reading : Reading) (fields i : ℕ) (out : List ℕ) (end : ℕ) → length s ≤ i → length out ≤ greatest → end ≤ greatest
-    → Left s reading fields i out end out (row_at i fields end)
+pub left_none : (s : List ℕ) (reading : Reading) (fields i : ℕ) (out : List ℕ) (end next : ℕ) → length s ≤ i → length out ≤ greatest → end ≤ greatest → next ≡ i
+    → Left s reading fields i out end out (row_at next fields end)
 unfolding joined_from fields_from width_from
-left_none s reading fields i out end h long fits = record {
+left_none s reading fields i out end next h long fits e = record {
   wrote = rw (drop_of_length-le s h) (wrote_none out end long fits);
   count = rw (drop_of_length-le s h);
-  next = rw (drop_of_length-le s h) (omega arith);
+  next = rw (drop_of_length-le s h) (omega (arith, e));
 }
 
 -- a byte, where it leads, and its mark

@@ -77,8 +77,7 @@ pub fn turn(reading: Reading, byte: u8) -> Reading
     ensures { result ≡ turned reading byte }
 {
     match reading {
-        Reading::RowStart => begins_at(byte),
-        Reading::FieldStart => begins_at(byte),
+        Reading::RowStart | Reading::FieldStart => begins_at(byte),
         Reading::Plain => plain_at(byte),
         Reading::Quoted => {
             if byte == QUOTE {
@@ -106,13 +105,8 @@ fn quoted_mark(before: Reading) -> Mark
     ensures { result ≡ quoted_mark before }
 {
     match before {
-        Reading::RowStart => Mark::Pass,
-        Reading::FieldStart => Mark::Pass,
-        Reading::Plain => Mark::Keep,
-        Reading::Quoted => Mark::Keep,
-        Reading::Shut => Mark::Keep,
-        Reading::RowEnd => Mark::Keep,
-        Reading::Broken => Mark::Keep,
+        Reading::RowStart | Reading::FieldStart => Mark::Pass,
+        _ => Mark::Keep,
     }
 }
 
@@ -125,24 +119,14 @@ pub fn mark_of(before: Reading, after: Reading) -> Mark
         Reading::FieldStart => Mark::Field,
         Reading::Plain => Mark::Keep,
         Reading::Quoted => quoted_mark(before),
-        Reading::Shut => Mark::Pass,
-        Reading::RowEnd => Mark::Pass,
-        Reading::Broken => Mark::Pass,
+        Reading::Shut | Reading::RowEnd | Reading::Broken => Mark::Pass,
     }
 }
 
 fn may_end(reading: Reading) -> bool
     ensures { result ≡ may_end reading }
 {
-    match reading {
-        Reading::RowStart => true,
-        Reading::FieldStart => true,
-        Reading::Plain => true,
-        Reading::Quoted => false,
-        Reading::Shut => true,
-        Reading::RowEnd => false,
-        Reading::Broken => false,
-    }
+    !matches!(reading, Reading::Quoted | Reading::RowEnd | Reading::Broken)
 }
 
 // Whether neither quoting nor a row end is broken.
@@ -150,10 +134,8 @@ pub fn is_sound(sheet: &[u8]) -> bool
     ensures { result ≡ sound sheet.now }
 {
     let mut reading = Reading::RowStart;
-    let mut i: usize = 0;
-    while i < sheet.len() {
-        reading = turn(reading, sheet[i]);
-        i += 1;
+    for byte in sheet {
+        reading = turn(reading, *byte);
     }
     may_end(reading)
 }
@@ -162,10 +144,9 @@ fn put_marked(out: &mut [u8], at: usize, mark: Mark, byte: u8) -> usize
     ensures { Wrote out.old at (mark_text mark byte) out.new result }
 {
     match mark {
-        Mark::Pass => at,
+        Mark::Pass | Mark::Row => at,
         Mark::Keep => text::put_byte(out, at, byte),
         Mark::Field => text::put_byte(out, at, b','),
-        Mark::Row => at,
     }
 }
 
@@ -173,22 +154,15 @@ fn mark_fields(mark: Mark) -> usize
     ensures { result ≡ mark_fields mark }
 {
     match mark {
-        Mark::Pass => 0,
-        Mark::Keep => 0,
         Mark::Field => 1,
-        Mark::Row => 0,
+        _ => 0,
     }
 }
 
 fn ends_row(mark: Mark) -> bool
     ensures { result ≡ ends_row mark }
 {
-    match mark {
-        Mark::Pass => false,
-        Mark::Keep => false,
-        Mark::Field => false,
-        Mark::Row => true,
-    }
+    matches!(mark, Mark::Row)
 }
 
 // Puts the row that starts at a place, its fields unquoted and joined by commas, into `out` from `at` on.
@@ -198,17 +172,15 @@ pub fn put_joined(sheet: &[u8], start: usize, out: &mut [u8], at: usize) -> Join
     let mut reading = Reading::RowStart;
     let mut fields: usize = 1;
     let mut end = at;
-    let mut i = start;
-    while i < sheet.len() {
+    for i in start..sheet.len() {
         let byte = sheet[i];
         let next = turn(reading, byte);
         let mark = mark_of(reading, next);
         end = put_marked(out, end, mark, byte);
         fields += mark_fields(mark);
-        i += 1;
         if ends_row(mark) {
             return JoinedRow {
-                next: i,
+                next: i + 1,
                 fields,
                 end,
             };
@@ -216,7 +188,7 @@ pub fn put_joined(sheet: &[u8], start: usize, out: &mut [u8], at: usize) -> Join
         reading = next;
     }
     JoinedRow {
-        next: i,
+        next: start.max(sheet.len()),
         fields,
         end,
     }

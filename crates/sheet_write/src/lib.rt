@@ -27,10 +27,8 @@ pub fn put_quoted(out: &mut [u8], at: usize, field: &[u8]) -> usize
     ensures { Wrote out.old at (quoted field.now) out.new result }
 {
     let mut next = text::put_byte(out, at, QUOTE);
-    let mut i = 0;
-    while i < field.len() {
-        next = put_doubled(out, next, field[i]);
-        i += 1;
+    for byte in field {
+        next = put_doubled(out, next, *byte);
     }
     text::put_byte(out, next, QUOTE)
 }

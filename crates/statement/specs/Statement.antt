@@ -1,5 +1,5 @@
 -- "A reader accepts it exactly when fields keep the ranges above ..; and the bytes are the writer's."
-use Rattle.std.specs.Prelude.{◌&&◌, ◌∷◌}
+use Rattle.std.specs.Prelude.{◌&&◌, ◌∷◌, Ok, Err}
 use Rattle.laws.specs.{ℕ, Bool, not, List, [], eqb, ltb, length}
 use Rattle.refusals.specs.{Verdict, ◌⇒◌, smallest, Refusal}
 use Rattle.holding.specs.{Holding, empty_holding}
@@ -16,8 +16,8 @@ unfoldable pub acceptable_within : Limits → List ℕ → HoldingRead → Verdi
 acceptable_within most s read = smallest (not (accepts_within most s read) ⇒ Refusal.CarriedStatement ∷ [])
 
 abbrev pub read_if : Verdict → Holding → Read
-read_if Verdict.Accepted holding = record { verdict = Verdict.Accepted; holding = holding }
-read_if (Verdict.Refused refusal) holding = record { verdict = Verdict.Refused refusal; holding = empty_holding }
+read_if (Ok _) holding = record { verdict = (Ok tt); holding = holding }
+read_if (Err refusal) holding = record { verdict = Err refusal; holding = empty_holding }
 
 -- the holding that a statement carries, or "11 statement"
 unfoldable pub read_within : Limits → List ℕ → Read

@@ -23,13 +23,13 @@ pub fn read_from(bytes: &[u8]) -> Read
     let kept = statement_judge::holding(holding);
     if (0 < next) & (next == bytes.len()) & kept {
         return Read {
-            verdict: Verdict::Accepted,
+            verdict: Ok(()),
             holding,
         };
     }
     let empty = holding::empty_holding();
     Read {
-        verdict: Verdict::Refused(Refusal::CarriedStatement),
+        verdict: Err(Refusal::CarriedStatement),
         holding: empty,
     }
 }

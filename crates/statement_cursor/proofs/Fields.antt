@@ -1,7 +1,8 @@
 -- A field: what it is read as, by the tests on its place and its end.
+use Rattle.std.specs.Prelude.{Option}
 use Rattle.laws.proofs.{ℕ, ◌+◌, ◌-◌, ◌≤◌, ◌<◌, ◌≡◌, refl, sym, ap, ◌∙◌, Bool, true, false, cond, List, arith, le-leb, lt-leb, eq-eqb, ne_eqb, eqb, leb, length, take, drop}
 use Rattle.text.specs.{width_to}
-use Rattle.forest.specs.{Named, named}
+use Rattle.forest.specs.{Forest, named}
 use Rattle.statement_cursor.specs.{field_of, field_by, no_type, type_before, type_at}
 
 -- a field at the place 0, one that is not ended, one that ends at `stop`, and one whose bytes are read as none
@@ -32,7 +33,7 @@ module _ {A : Type 0} (none : A) (read : ℕ → List ℕ → A) (s : List ℕ) 
       go false false = e
 
 -- a type, by what its bytes name
-module _ (s : List ℕ) (at end stop : ℕ) (name : Named) (h : at ≡ 0 → ⊥) (e : stop ≡ at + width_to end (drop at s)) (inside : stop < length s) where
+module _ (s : List ℕ) (at end stop : ℕ) (name : Option Forest) (h : at ≡ 0 → ⊥) (e : stop ≡ at + width_to end (drop at s)) (inside : stop < length s) where
   pub type_read : named (take (stop - at) (drop at s)) ≡ name → type_before (stop + 1) name ≡ type_at s at end
   unfolding type_at
   type_read q = ap (type_before (stop + 1)) (sym q) ∙ field-read no_type (λ next bytes. type_before next (named bytes)) s at end stop h e inside

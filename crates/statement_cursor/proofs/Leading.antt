@@ -1,9 +1,10 @@
 -- The digits that a field starts with: a digit that fits moves the number and the place on, and a field with any other byte is no value.
+use Rattle.std.specs.Prelude.{Ok}
 use Rattle.laws.proofs.{ℕ, ◌+◌, ◌*◌, ◌-◌, ◌≤◌, ◌<◌, ◌≡◌, refl, sym, ◌∙◌, Bool, true, false, ◌||◌, List, arith, add-one, lt-ltb, le-ltb, ne_eqb, eqb, ltb, eqb-true, eqb-false, ltb-true, ltb-false, length, get_or, drop-cons}
 use Rattle.laws.proofs.Elements.{or_false_left, or_false_right}
 use Rattle.text.specs.{width_to}
 use Rattle.text.proofs.Widths.{end_later}
-use Rattle.text_number.specs.{Number, room, append, more}
+use Rattle.text_number.specs.{room, append, more}
 use Rattle.text_number.proofs.Laws.{append_low, append_high, append-known}
 use Rattle.text_number.proofs.RoundTrip.{stuck}
 use Rattle.statement_cursor.specs.{field_from, Leads, Stops}
@@ -35,11 +36,11 @@ module _ (end value b : ℕ) where
       }
 
   -- what a digit makes of the number
-  one_more : Digit end value b → Number.Value (value * 10 + (b - 48)) ≡ append (Number.Value value) b
+  one_more : Digit end value b → Ok (value * 10 + (b - 48)) ≡ append (Ok value) b
   one_more d = append-known _ _ _ b d.low d.high refl (simp (lt-ltb value room d.fits))
 
   -- any other byte makes no value of it
-  no_value : (bs : List ℕ) (v : ℕ) → stopped end value b ≡ true → (b ≡ end → ⊥) → more (append (Number.Value value) b) bs ≡ Number.Value v → ⊥
+  no_value : (bs : List ℕ) (v : ℕ) → stopped end value b ≡ true → (b ≡ end → ⊥) → more (append (Ok value) b) bs ≡ Ok v → ⊥
   no_value bs v e other q = go (ltb b 48) refl (ltb 57 b) refl (ltb largest value) refl (simp (ne_eqb b end other) at e)
     where
       go : (l : Bool) → ltb b 48 ≡ l → (h : Bool) → ltb 57 b ≡ h → (r : Bool) → ltb largest value ≡ r → ((l || h) || r) ≡ true → ⊥
@@ -52,7 +53,7 @@ module _ (end value b : ℕ) where
 
 module _ (s : List ℕ) (end value i : ℕ) (h : i < length s) where
   -- a field that does not end at a place goes on behind it
-  field_later : (get_or s i 0 ≡ end → ⊥) → more (append (Number.Value value) (get_or s i 0)) (field_from s (i + 1) end) ≡ more (Number.Value value) (field_from s i end)
+  field_later : (get_or s i 0 ≡ end → ⊥) → more (append (Ok value) (get_or s i 0)) (field_from s (i + 1) end) ≡ more (Ok value) (field_from s i end)
   unfolding more width_to
   field_later other = rw (add-one, drop-cons s i 0 h) (simp (ne_eqb _ _ other))
 

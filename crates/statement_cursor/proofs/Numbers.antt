@@ -1,10 +1,11 @@
 -- A number, by where the digits of its field stop: it is theirs where they stop at the field's end and the first is no zero in front of others, and
 -- a field that goes on is no value.
+use Rattle.std.specs.Prelude.{Ok, Err}
 use Rattle.laws.proofs.{ℕ, zero, suc, ◌+◌, ◌-◌, ◌≤◌, ◌<◌, ◌≡◌, refl, sym, ap, ◌∙◌, Bool, true, false, not, cond, ◌&&◌, ◌||◌, List, [], ◌∷◌, arith, lt-ltb, ne_eqb, leb-true, eqb-true, eqb-false, eqb, ltb, leb, length, take, drop, get_or, length-drop, drop-cons}
 use Rattle.laws.proofs.Lists.{and_right}
 use Rattle.text.specs.{width_to}
 use Rattle.text.proofs.Widths.{end_here}
-use Rattle.text_number.specs.{Number, more, headed, number_in}
+use Rattle.text_number.specs.{Number, Unread, more, headed, number_in}
 use Rattle.statement_cursor.specs.{NumberField, Leads, Stops, no_number, number_before, number_at}
 use Rattle.statement_cursor.proofs.Fields.{field_nowhere, field_unended, field-read, field_none}
 
@@ -21,19 +22,19 @@ headed_by (b ∷ []) (suc (suc w)) h = absurd (omega arith)
 headed_by (b ∷ c ∷ l) (suc (suc w)) h = simp (lt-ltb 0 (suc (suc w)) (omega arith), ne_eqb (suc (suc w)) 1 (λ e. omega arith))
 
 -- a value is read of all bytes
-valued : (l : List ℕ) (v : ℕ) → number_in l ≡ Number.Value v → more (Number.Value 0) l ≡ Number.Value v
+valued : (l : List ℕ) (v : ℕ) → number_in l ≡ Ok v → more (Ok 0) l ≡ Ok v
 unfolding number_in
 valued l v e = go (headed l) e
   where
-    go : (t : Bool) → cond t (more (Number.Value 0) l) Number.Malformed ≡ Number.Value v → more (Number.Value 0) l ≡ Number.Value v
+    go : (t : Bool) → cond t (more (Ok 0) l) (Err Unread.Malformed) ≡ Ok v → more (Ok 0) l ≡ Ok v
     go true e = e
     go false e = let z : ◌≡◌ {A = ℕ} 0 1 = cc in absurd (omega arith)
 
-no_number_lem : (most next : ℕ) (n : Number) → ((v : ℕ) → n ≡ Number.Value v → ⊥) → no_number ≡ number_before most next n
+no_number_lem : (most next : ℕ) (n : Number) → ((v : ℕ) → n ≡ Ok v → ⊥) → no_number ≡ number_before most next n
 unfolding number_before
-no_number_lem most next (Number.Value v) h = absurd (h v refl)
-no_number_lem most next Number.Large h = refl
-no_number_lem most next Number.Malformed h = refl
+no_number_lem most next (Ok v) h = absurd (h v refl)
+no_number_lem most next (Err Unread.Large) h = refl
+no_number_lem most next (Err Unread.Malformed) h = refl
 
 module _ (s : List ℕ) (at end most value stop : ℕ) (leads : Leads s at end value stop) where
   pub number_unended : length s ≤ stop → no_number ≡ number_at s at end most
@@ -51,13 +52,13 @@ module _ (s : List ℕ) (at end most value stop : ℕ) (leads : Leads s at end v
     goes_on stops other = field_none _ _ s at end (no_number_lem most _ _ (λ v e. other (stops inside v (leads.read ∙ valued _ v e))))
 
     ends : (at ≡ 0 → ⊥) → get_or s stop 0 ≡ end
-        → number_before most (stop + 1) (cond (leading (stop - at) (get_or s at 0)) (Number.Value value) Number.Malformed) ≡ number_at s at end most
+        → number_before most (stop + 1) (cond (leading (stop - at) (get_or s at 0)) (Ok value) (Err Unread.Malformed)) ≡ number_at s at end most
     unfolding number_at number_in more
     ends h e =
         let none : width_to end (drop stop s) ≡ 0 = end_here end s stop inside e in
         let width : width_to end (drop at s) ≡ stop - at = omega (arith, leads.ended, leads.behind) in
-        let whole : more (Number.Value 0) (take (stop - at) (drop at s)) ≡ Number.Value value =
-        ap (λ (k : ℕ). more (Number.Value 0) (take k (drop at s))) (sym width) ∙ sym leads.read ∙ rw none in
+        let whole : more (Ok 0) (take (stop - at) (drop at s)) ≡ Ok value =
+        ap (λ (k : ℕ). more (Ok 0) (take k (drop at s))) (sym width) ∙ sym leads.read ∙ rw none in
         let there : get_or (drop at s) 0 0 ≡ get_or s at 0 = rw (drop-cons s at 0 (omega (arith, leads.behind))) in
         let first : headed (take (stop - at) (drop at s)) ≡ leading (stop - at) (get_or s at 0) =
         headed_by (drop at s) (stop - at) (simp length-drop (omega arith)) ∙ ap (leading (stop - at)) there in
@@ -76,7 +77,7 @@ module _ (s : List ℕ) (at end most value stop : ℕ) (leads : Leads s at end v
     by_tests stops = go (eqb at 0) refl (eqb (get_or s stop 0) end) refl
       where
         found : (t : Bool) → cond (t && leb value most) (record { value = value; next = stop + 1 }) no_number
-            ≡ number_before most (stop + 1) (cond t (Number.Value value) Number.Malformed)
+            ≡ number_before most (stop + 1) (cond t (Ok value) (Err Unread.Malformed))
         found true = refl
         found false = refl
 

@@ -1,10 +1,10 @@
 -- What stands at a place of a list of bytes, and the place after it. The place 0 is nowhere. The reader's own:
 -- `accepts_just_when` (theorem_round_trips) says what it comes to by `carried` and `statement_of` alone.
 use Rattle.laws.specs.{ℕ, cond, List, eqb, leb, ltb, length, take, drop, get_or}
-use Rattle.std.specs.Prelude.{◌<◌, ◌+◌, ◌≤◌, ◌≡◌, ◌&&◌}
+use Rattle.std.specs.Prelude.{◌<◌, ◌+◌, ◌≤◌, ◌≡◌, ◌&&◌, Some, None, Option, Ok, Err}
 use Rattle.text.specs.{comma, width_to}
-use Rattle.text_number.specs.{Number, more, number_in}
-use Rattle.forest.specs.{Named, named, Forest}
+use Rattle.text_number.specs.{Number, Unread, more, number_in}
+use Rattle.forest.specs.{named, Forest}
 use Rattle.statement_cursor.specs.declared.NumberField.{NumberField}
 use Rattle.statement_cursor.specs.declared.TypeField.{TypeField}
 
@@ -23,9 +23,9 @@ no_type = record { forest = Forest.Bare; next = 0 }
 
 -- a number of at most `most`
 unfoldable pub number_before : ℕ → ℕ → Number → NumberField
-number_before most next (Number.Value v) = cond (leb v most) (record { value = v; next = next }) no_number
-number_before most next Number.Large = no_number
-number_before most next Number.Malformed = no_number
+number_before most next (Ok v) = cond (leb v most) (record { value = v; next = next }) no_number
+number_before most next (Err Unread.Large) = no_number
+number_before most next (Err Unread.Malformed) = no_number
 
 unfoldable pub number_at : List ℕ → ℕ → ℕ → ℕ → NumberField
 number_at s at end most = field_by no_number (λ next bytes. number_before most next (number_in bytes)) s at end
@@ -38,15 +38,15 @@ field_from s at end = take (width_to end (drop at s)) (drop at s)
 pub record Leads (s : List ℕ) (at end value stop : ℕ) : Type 0 where
   pub behind : at ≤ stop
   pub ended : stop + width_to end (drop stop s) ≡ at + width_to end (drop at s)
-  pub read : more (Number.Value value) (field_from s stop end) ≡ more (Number.Value 0) (field_from s at end)
+  pub read : more (Ok value) (field_from s stop end) ≡ more (Ok 0) (field_from s at end)
 
 -- at `stop` a field that is a value ends
 abbrev pub Stops : List ℕ → ℕ → ℕ → ℕ → Type 0
-Stops s end value stop = stop < length s → (v : ℕ) → more (Number.Value value) (field_from s stop end) ≡ Number.Value v → get_or s stop 0 ≡ end
+Stops s end value stop = stop < length s → (v : ℕ) → more (Ok value) (field_from s stop end) ≡ Ok v → get_or s stop 0 ≡ end
 
-unfoldable pub type_before : ℕ → Named → TypeField
-type_before next (Named.Listed forest) = record { forest = forest; next = next }
-type_before next Named.Unlisted = no_type
+unfoldable pub type_before : ℕ → Option Forest → TypeField
+type_before next (Some forest) = record { forest = forest; next = next }
+type_before next None = no_type
 
 unfoldable pub type_at : List ℕ → ℕ → ℕ → TypeField
 type_at s at end = field_by no_type (λ next bytes. type_before next (named bytes)) s at end

@@ -5,7 +5,7 @@
 ghost use Rattle.std.specs.Prelude.{◌≤◌, ◌≡◌};
 ghost use Rattle.statement_cursor.specs.{Leads, Stops, number_at, type_at, start_at, line_at};
 
-use forest::{Forest, Named};
+use forest::Forest;
 
 #[derive(Clone, Copy)]
 pub struct NumberField {
@@ -87,11 +87,11 @@ pub fn forest_type(s: &[u8], at: usize, end: u8) -> TypeField
         };
     }
     match forest::read(&s[at..stop]) {
-        Named::Listed(f) => TypeField {
+        Some(f) => TypeField {
             forest: f,
             next: stop + 1,
         },
-        Named::Unlisted => TypeField {
+        None => TypeField {
             forest: Forest::Bare,
             next: 0,
         },

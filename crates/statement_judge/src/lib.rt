@@ -20,15 +20,6 @@ fn residue(opening: u16, latest: u16, residue: Residue) -> bool
     (opening <= residue.year) & (residue.year <= latest) & (residue.age <= OLDEST_RESIDUE)
 }
 
-fn greater(a: u16, b: u16) -> u16
-    ensures { result ≡ max a b }
-{
-    if a < b {
-        return b;
-    }
-    a
-}
-
 // Whether a sub-area is carried in any area of this opening and latest year.
 fn sub(opening: u16, latest: u16, sub: Sub) -> bool
     ensures { (area : Area) → area.opening ≡ opening → area.latest ≡ latest → result ≡ sub_carried area sub }
@@ -39,7 +30,7 @@ fn sub(opening: u16, latest: u16, sub: Sub) -> bool
     ranges::is_sub(sub.number)
         & ranges::is_land(land)
         & ranges::is_planted(forest, sub.planted)
-        & (sub.planted <= greater(opening, latest))
+        & (sub.planted <= opening.max(latest))
         & residue(opening, latest, left)
 }
 
@@ -47,34 +38,20 @@ fn sub(opening: u16, latest: u16, sub: Sub) -> bool
 pub fn area(area: Area) -> bool
     ensures { result ≡ area_carried area }
 {
-    let n = statement_distinct::lesser(area.count, MOST_SUBS);
+    let subs = area.standing();
     let mut kept = statement_carried::fields(area);
     let mut borne = [0u16; MOST_SUBS];
-    let mut i: usize = 0;
-    while i < n {
-        let one = area.subs[i];
-        kept = kept & sub(area.opening, area.latest, one);
+    for (i, one) in subs.iter().enumerate() {
+        kept = kept & sub(area.opening, area.latest, *one);
         borne[i] = one.number;
-        i += 1;
     }
-    kept & statement_distinct::numbers(&borne[0..n])
+    kept & statement_distinct::numbers(&borne[..subs.len()])
 }
 
 fn areas(holding: Holding) -> bool
     ensures { result ≡ every area_carried (areas_of holding) }
 {
-    let n = holding.count;
-    let mut kept = true;
-    let mut i: usize = 0;
-    while i < MOST_AREAS {
-        if n <= i {
-            return kept;
-        }
-        let one = holding.areas[i];
-        kept = kept & area(one);
-        i += 1;
-    }
-    kept
+    holding.standing().iter().all(|one| area(*one))
 }
 
 // The list of a statement's conditions, each area and sub-area gone through once but for their numbers.

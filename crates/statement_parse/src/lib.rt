@@ -171,13 +171,10 @@ pub fn read_area(s: &[u8], at: usize) -> AreaRead
         subs: [holding::EMPTY_SUB; MOST_SUBS],
     };
     let mut next = count.next;
-    let mut i: usize = 0;
-    while i < n {
+    for i in 0..n {
         let read = read_sub(s, next);
-        let sub = read.sub;
-        area.subs[i] = sub;
+        area.subs[i] = read.sub;
         next = read.next;
-        i += 1;
     }
     AreaRead { area, next }
 }
@@ -188,13 +185,10 @@ fn read_areas(s: &[u8], at: usize, count: usize) -> AreasRead
 {
     let mut areas = [holding::empty_area(); MOST_AREAS];
     let mut next = at;
-    let mut i: usize = 0;
-    while i < count {
+    for i in 0..count {
         let read = read_area(s, next);
-        let area = read.area;
-        areas[i] = area;
+        areas[i] = read.area;
         next = read.next;
-        i += 1;
     }
     AreasRead { areas, next }
 }

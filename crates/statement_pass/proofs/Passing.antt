@@ -1,11 +1,12 @@
 -- What the pass over the areas comes to, by what the whole statement is read as: the tests of the areas and their numbers are the statement's, and the
 -- area that was sought is the one that a search of the holding finds, at its place.
-use Rattle.laws.proofs.{ℕ, zero, suc, ◌+◌, ◌-◌, ◌<◌, ◌≡◌, refl, sym, ap, ◌∙◌, Bool, true, false, cond, ◌&&◌, List, arith, eqb, leb, ltb, le-leb, length, take}
+use Rattle.std.specs.Prelude.{Ok, Err, Some, None, Option}
+use Rattle.laws.proofs.{ℕ, zero, suc, ◌+◌, ◌<◌, ◌≡◌, refl, sym, ap, ◌∙◌, Bool, true, false, cond, ◌&&◌, List, arith, eqb, leb, ltb, le-leb, length, take}
 use Rattle.laws.specs.{every, distinct, sum_by, all_of}
 use Rattle.laws.proofs.Turns.{and_assoc}
 use Rattle.laws.proofs.Lists.{and_left, and_right}
-use Rattle.refusals.specs.{Refusal, Verdict}
-use Rattle.holding.specs.{Area, Holding, Found, most_areas, areas_of, empty_area, empty_holding, place_from, find_area}
+use Rattle.refusals.specs.{Refusal}
+use Rattle.holding.specs.{Area, Holding, most_areas, areas_of, empty_area, empty_holding, place_from, find_area}
 use Rattle.holding_look.specs.{Units, area_at, looked_up, units_of, units_in}
 use Rattle.statement_carried.specs.{area_carried, carried, carried_within}
 use Rattle.laws.proofs.Distinct.{distinct_borne}
@@ -27,15 +28,15 @@ module _ (s : List ℕ) (number : ℕ) where
   read = (holding_at s).holding
 
   -- what is at a place that a search found
-  abbrev there_at : Found → Sought
+  abbrev there_at : Option ℕ → Sought
   there_at found = record { found = found; area = area_at read found; from = start_of s found; to = end_of s found }
 
   -- a search among k areas from the one at i on
-  abbrev searched : ℕ → ℕ → ℕ → Found
+  abbrev searched : ℕ → ℕ → ℕ → Option ℕ
   searched k i at = place_from (λ (a : Area). a.number) number i (items_read (area_in s) (after_area s) k at)
 
   found_there : (i : ℕ) → i < areas s
-      → record { found = Found.At i; area = area_in s (place_of s i); from = place_of s i; to = after_area s (place_of s i) } ≡ there_at (Found.At i)
+      → record { found = Some i; area = area_in s (place_of s i); from = place_of s i; to = after_area s (place_of s i) } ≡ there_at (Some i)
   unfolding area_at start_of end_of
   found_there i h = rw (area_at_lem s i h, place-next s i)
 
@@ -45,9 +46,9 @@ module _ (s : List ℕ) (number : ℕ) where
   sought-next i k h behind = go (eqb (area_in s (place_of s i)).number number)
     where
       go : (t : Bool)
-          → cond t (record { found = Found.At i; area = area_in s (place_of s i); from = place_of s i; to = after_area s (place_of s i) })
+          → cond t (record { found = Some i; area = area_in s (place_of s i); from = place_of s i; to = after_area s (place_of s i) })
           (sought_from s number (i + 1) k (after_area s (place_of s i)))
-          ≡ there_at (cond t (Found.At i) (searched k (i + 1) (after_area s (place_of s i))))
+          ≡ there_at (cond t (Some i) (searched k (i + 1) (after_area s (place_of s i))))
       go true = found_there i h
       go false = rw place-next at behind
 
@@ -65,12 +66,10 @@ module _ (s : List ℕ) (number : ℕ) where
       (ap (items_read (area_in s) (after_area s) (areas s)) (place-first s) ∙ sym (areas-read s))
 
   module _ (passed : AreasPassed) (p : PassesAreas s (body s) (areas s) number passed) (apart : Bool)
-      (d : apart ≡ distinct (λ (n : ℕ). n) (take (areas s - 0) passed.numbers)) where
+      (d : apart ≡ distinct (λ (n : ℕ). n) (take (areas s) passed.numbers)) where
     apart_is : apart ≡ distinct (λ (a : Area). a.number) (areas_of read)
     apart_is =
-        let all : areas s - 0 ≡ areas s = omega arith in
-        d ∙ ap (λ (n : ℕ). distinct (λ (n : ℕ). n) (take n passed.numbers)) all
-        ∙ ap (distinct (λ (n : ℕ). n)) p.numbers
+        d ∙ ap (distinct (λ (n : ℕ). n)) p.numbers
         ∙ distinct_borne (λ (a : Area). a.number) (first_areas s (areas s))
         ∙ ap (distinct (λ (a : Area). a.number)) (sym (areas-read s))
 
@@ -103,7 +102,7 @@ module _ (s : List ℕ) (number : ℕ) where
 
     abbrev from-sought : ℕ → Sought → Units → Passed
     from-sought count x units = record {
-      verdict = Verdict.Accepted;
+      verdict = (Ok tt);
       looked = record { number = number; count = count; found = x.found; area = x.area };
       body = body s;
       from = x.from;
@@ -115,17 +114,17 @@ module _ (s : List ℕ) (number : ℕ) where
     units_are : passed.kept ≡ true → passed.units ≡ units_of read
     units_are kept = p.units kept ∙ ap units_in (sym (areas-read s))
 
-    is_read : accepts s (holding_at s) ≡ true → record { verdict = Verdict.Accepted; holding = read } ≡ read_of s
+    is_read : accepts s (holding_at s) ≡ true → record { verdict = (Ok tt); holding = read } ≡ read_of s
     unfolding read_within
     is_read e = taken s (holding_at s) e
 
-    is_turned : accepts s (holding_at s) ≡ false → record { verdict = Verdict.Refused Refusal.CarriedStatement; holding = empty_holding } ≡ read_of s
+    is_turned : accepts s (holding_at s) ≡ false → record { verdict = Err Refusal.CarriedStatement; holding = empty_holding } ≡ read_of s
     unfolding read_within
     is_turned e = refused s (holding_at s) empty_holding refl e
 
     pub passed_clear : (((ltb 0 passed.next && eqb passed.next (length s)) && passed.kept) && apart) ≡ true
         → record {
-          verdict = Verdict.Accepted;
+          verdict = (Ok tt);
           looked = record { number = number; count = areas s; found = passed.found; area = passed.area };
           body = body s;
           from = passed.from;
@@ -142,8 +141,8 @@ module _ (s : List ℕ) (number : ℕ) where
 
     pub passed_turned : (((ltb 0 passed.next && eqb passed.next (length s)) && passed.kept) && apart) ≡ false → (none : Area) → none ≡ empty_area
         → record {
-          verdict = Verdict.Refused Refusal.CarriedStatement;
-          looked = record { number = number; count = 0; found = Found.Nowhere; area = none };
+          verdict = Err Refusal.CarriedStatement;
+          looked = record { number = number; count = 0; found = None; area = none };
           body = body s;
           from = length s;
           to = length s;
@@ -152,8 +151,8 @@ module _ (s : List ℕ) (number : ℕ) where
     unfolding passed_over find_area place_from area_at start_of end_of sum_by
     passed_turned e none n =
         ap (λ (a : Area). record {
-          verdict = Verdict.Refused Refusal.CarriedStatement;
-          looked = record { number = number; count = 0; found = Found.Nowhere; area = a };
+          verdict = Err Refusal.CarriedStatement;
+          looked = record { number = number; count = 0; found = None; area = a };
           body = body s;
           from = length s;
           to = length s;
@@ -164,10 +163,10 @@ module _ (s : List ℕ) (number : ℕ) where
 -- by the first line as it was read
 module _ (s : List ℕ) (number : ℕ) (head : NumberField) (h : head ≡ head_at s) (passed : AreasPassed) (apart test : Bool)
     (t : test ≡ (((ltb 0 passed.next && eqb passed.next (length s)) && passed.kept) && apart)) where
-  pub pass_clear : PassesAreas s head.next head.value number passed → apart ≡ distinct (λ (n : ℕ). n) (take (head.value - 0) passed.numbers)
+  pub pass_clear : PassesAreas s head.next head.value number passed → apart ≡ distinct (λ (n : ℕ). n) (take head.value passed.numbers)
       → test ≡ true
       → record {
-        verdict = Verdict.Accepted;
+        verdict = (Ok tt);
         looked = record { number = number; count = head.value; found = passed.found; area = passed.area };
         body = head.next;
         from = passed.from;
@@ -176,11 +175,11 @@ module _ (s : List ℕ) (number : ℕ) (head : NumberField) (h : head ≡ head_a
       } ≡ passed_over s number
   pass_clear p d e = rw h (passed_clear s number passed (rw h at p) apart (rw h at d) (sym t ∙ e))
 
-  pub pass_turned : PassesAreas s head.next head.value number passed → apart ≡ distinct (λ (n : ℕ). n) (take (head.value - 0) passed.numbers)
+  pub pass_turned : PassesAreas s head.next head.value number passed → apart ≡ distinct (λ (n : ℕ). n) (take head.value passed.numbers)
       → test ≡ false → (none : Area) → none ≡ empty_area
       → record {
-        verdict = Verdict.Refused Refusal.CarriedStatement;
-        looked = record { number = number; count = 0; found = Found.Nowhere; area = none };
+        verdict = Err Refusal.CarriedStatement;
+        looked = record { number = number; count = 0; found = None; area = none };
         body = head.next;
         from = length s;
         to = length s;

@@ -1,11 +1,12 @@
 -- A turn of the pass over the areas: what was found so far and what is found from here on make what is found of all of them; and so with the units, which
 -- are added while every area is carried.
+use Rattle.std.specs.Prelude.{Some, Option}
 use Rattle.laws.proofs.{ℕ, suc, ◌+◌, ◌-◌, ◌*◌, ◌≤◌, ◌<◌, max, ◌≡◌, refl, sym, ap, ◌∙◌, Bool, true, false, cond, not, ◌&&◌, List, [], ◌∷◌, ◌++◌, map, append_assoc, append-nil, add-one, ◌⊎◌, inl, inr, ⊎_elim, arith, eqb, length, take, set, length-set}
 use Rattle.laws.specs.{every, sum_by}
 use lib.Seq.{take-suc-set}
 use Rattle.laws.proofs.Lists.{and_left, and_right}
 use Rattle.laws.proofs.Turns.{and_none, and_assoc}
-use Rattle.holding.specs.{Area, Found, most_areas}
+use Rattle.holding.specs.{Area, most_areas}
 use Rattle.holding_look.specs.{known}
 use Rattle.statement_carried.specs.{fields_carried, area_carried}
 use Rattle.statement_carried.proofs.Bounds.{area-fields, most_units, units-few}
@@ -91,7 +92,7 @@ module _ (s : List ℕ) (at count number : ℕ) where
     place-more = rw one_more
 
     abbrev here : Sought
-    here = record { found = Found.At i; area = area_in s next; from = next; to = after_area s next }
+    here = record { found = Some i; area = area_in s next; from = next; to = after_area s next }
 
     sought-more : sought_from s number i (count - i) next
         ≡ cond (eqb (area_in s next).number number) here
@@ -129,7 +130,7 @@ module _ (s : List ℕ) (at count number : ℕ) where
     -- the area that was read, and what is known of the one looked for
     module _ (read : AreaRead) (is : read ≡ area_line_at s next) (so_far : Sought) (looking : Looking i next so_far) (before : Bool)
         (e : before ≡ known so_far.found) where
-      pub found_here : (eqb read.area.number number && not before) ≡ true → (f : Found) → f ≡ Found.At i → (a : Area) → a ≡ read.area
+      pub found_here : (eqb read.area.number number && not before) ≡ true → (f : Option ℕ) → f ≡ Some i → (a : Area) → a ≡ read.area
           → (p : ℕ) → p ≡ next → (q : ℕ) → q ≡ read.next → Looking (i + 1) read.next (record { found = f; area = a; from = p; to = q })
       found_here t f ef a ea p ep q eq = rw (ef, ea, ep, eq, is) (looking_here so_far looking (rw (is, e) at t))
 

@@ -1,7 +1,7 @@
 -- The pass over a statement's areas: each is judged as it stands, its number kept, its place noted if it is the one looked for, and its units added.
-use Rattle.std.specs.Prelude.{◌+◌, ◌≡◌}
+use Rattle.std.specs.Prelude.{◌+◌, ◌≡◌, Some, None, Option}
 use Rattle.laws.specs.{ℕ, zero, suc, true, cond, List, map, eqb, length, take, every}
-use Rattle.holding.specs.{Area, Found, most_areas, empty_area}
+use Rattle.holding.specs.{Area, most_areas, empty_area}
 use Rattle.holding_look.specs.{units_in}
 use Rattle.statement_carried.specs.{area_carried}
 use Rattle.statement_places.specs.{items_read, place_after, area_in, after_area}
@@ -9,20 +9,20 @@ use Rattle.statement_pass.specs.declared.AreasPassed.{AreasPassed}
 
 -- an area looked for: where it is among the areas, the area, and the places where its lines start and end
 pub record Sought : Type 0 where
-  pub found : Found
+  pub found : Option ℕ
   pub area : Area
   pub from : ℕ
   pub to : ℕ
 
 abbrev pub not_there : List ℕ → Sought
-not_there s = record { found = Found.Nowhere; area = empty_area; from = length s; to = length s }
+not_there s = record { found = None; area = empty_area; from = length s; to = length s }
 
 -- the first of that number among k areas from a place on, of which i stand before
 unfoldable pub sought_from : List ℕ → ℕ → ℕ → ℕ → ℕ → Sought
 sought_from s number i zero at = not_there s
 sought_from s number i (suc k) at =
     cond (eqb (area_in s at).number number)
-    (record { found = Found.At i; area = area_in s at; from = at; to = after_area s at })
+    (record { found = Some i; area = area_in s at; from = at; to = after_area s at })
     (sought_from s number (i + 1) k (after_area s at))
 
 -- what is found of k areas from a place on

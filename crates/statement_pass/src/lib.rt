@@ -6,7 +6,7 @@ ghost use Rattle.std.specs.Prelude.{◌≡◌, ◌≤◌};
 ghost use Rattle.holding.specs.{most_areas};
 ghost use Rattle.statement_pass.specs.{PassesAreas, passed_over};
 
-use holding::{Area, Found, MOST_AREAS};
+use holding::{Area, MOST_AREAS};
 use holding_look::{Looked, Units};
 use refusals::{Refusal, Verdict};
 use statement_parse::AREAS_READ;
@@ -17,7 +17,7 @@ use statement_parse::AREAS_READ;
 struct AreasPassed {
     kept: bool,
     numbers: [u16; MOST_AREAS],
-    found: Found,
+    found: Option<usize>,
     area: Area,
     from: usize,
     to: usize,
@@ -31,7 +31,7 @@ fn pass_areas(s: &[u8], at: usize, count: usize, number: u16) -> AreasPassed
 {
     let mut kept = true;
     let mut numbers = [0u16; MOST_AREAS];
-    let mut found = Found::Nowhere;
+    let mut found = None;
     let mut named = holding::empty_area();
     let mut from = s.len();
     let mut to = s.len();
@@ -39,8 +39,7 @@ fn pass_areas(s: &[u8], at: usize, count: usize, number: u16) -> AreasPassed
     let mut surrendered: u64 = 0;
     let mut balance: u64 = 0;
     let mut next = at;
-    let mut i: usize = 0;
-    while i < count {
+    for i in 0..count {
         let read = statement_parse::read_area(s, next);
         let area = read.area;
         let carried = statement_judge::area(area);
@@ -53,13 +52,12 @@ fn pass_areas(s: &[u8], at: usize, count: usize, number: u16) -> AreasPassed
         numbers[i] = area.number;
         let known = holding_look::is_known(found);
         if (area.number == number) & !known {
-            found = Found::At(i);
+            found = Some(i);
             named = area;
             from = next;
             to = read.next;
         }
         next = read.next;
-        i += 1;
     }
     AreasPassed {
         kept,
@@ -98,14 +96,14 @@ pub fn pass(s: &[u8], number: u16) -> Passed
     let count = head.value as usize;
     let areas = pass_areas(s, body, count, number);
     let numbers = areas.numbers;
-    let apart = statement_distinct::numbers(&numbers[0..count]);
+    let apart = statement_distinct::numbers(&numbers[..count]);
     let next = areas.next;
     if (0 < next) & (next == s.len()) & areas.kept & apart {
         let found = areas.found;
         let area = areas.area;
         let units = areas.units;
         return Passed {
-            verdict: Verdict::Accepted,
+            verdict: Ok(()),
             looked: Looked {
                 number,
                 count,
@@ -120,11 +118,11 @@ pub fn pass(s: &[u8], number: u16) -> Passed
     }
     let none = holding::empty_area();
     Passed {
-        verdict: Verdict::Refused(Refusal::CarriedStatement),
+        verdict: Err(Refusal::CarriedStatement),
         looked: Looked {
             number,
             count: 0,
-            found: Found::Nowhere,
+            found: None,
             area: none,
         },
         body,

@@ -1,9 +1,10 @@
 -- Numbers and types as fields: the digits of a number and the letters of a type are read as it, and nothing else is.
+use Rattle.std.specs.Prelude.{Some, None, Option, Ok, Err}
 use Rattle.laws.proofs.{ℕ, ◌≤◌, ◌<◌, ◌≡◌, refl, ap, subst, ◌∙◌, Bool, true, false, cond, List, [], ◌∷◌, ◌++◌, arith, le-leb, leb-true, leb}
 use Rattle.text.specs.{digits}
-use Rattle.text_number.specs.{Number, number_in}
+use Rattle.text_number.specs.{Number, Unread, number_in}
 use Rattle.text_number.proofs.RoundTrip.{there_and_back, canonical}
-use Rattle.forest.specs.{Forest, Named, letters_of, named}
+use Rattle.forest.specs.{Forest, letters_of, named}
 use Rattle.forest.proofs.Laws.{letters_name, only_letters_name}
 use Rattle.statement_format.specs.{number_text, type_text}
 use Rattle.statement_cursor.specs.{NumberField, no_number, no_type, number_before, number_at, type_before, type_at}
@@ -28,14 +29,14 @@ module _ (s : List ℕ) (at end most : ℕ) where
   number_of : (next : ℕ) (bytes : List ℕ) → 0 < at → Stands s at (bytes ++ (end ∷ [])) next → (n : Number) → number_in bytes ≡ n
       → 0 < (number_before most next n).next → There s at (number_text (number_before most next n).value end) (number_before most next n).next
   unfolding number_before number_text
-  number_of next bytes started stands (Number.Value v) e h = go (leb v most) h
+  number_of next bytes started stands (Ok v) e h = go (leb v most) h
     where
       go : (t : Bool) → 0 < (valued v next t).next
           → There s at (digits (valued v next t).value ++ (end ∷ [])) (valued v next t).next
       go true h = record { started = started; stands = subst (λ (l : List ℕ). Stands s at (l ++ (end ∷ [])) next) (canonical bytes v e) stands }
       go false h = absurd (omega arith)
-  number_of next bytes started stands Number.Large e h = absurd (omega arith)
-  number_of next bytes started stands Number.Malformed e h = absurd (omega arith)
+  number_of next bytes started stands (Err Unread.Large) e h = absurd (omega arith)
+  number_of next bytes started stands (Err Unread.Malformed) e h = absurd (omega arith)
 
   pub number_there : 0 < (number_at s at end most).next → There s at (number_text (number_at s at end most).value end) (number_at s at end most).next
   unfolding number_at
@@ -47,13 +48,13 @@ module _ (s : List ℕ) (at end most : ℕ) where
 
   small_number : (next : ℕ) (n : Number) → (number_before most next n).value ≤ most
   unfolding number_before
-  small_number next (Number.Value v) = go (leb v most) refl
+  small_number next (Ok v) = go (leb v most) refl
     where
       go : (t : Bool) → leb v most ≡ t → (valued v next t).value ≤ most
       go true e = leb-true v most e
       go false e = omega arith
-  small_number next Number.Large = omega arith
-  small_number next Number.Malformed = omega arith
+  small_number next (Err Unread.Large) = omega arith
+  small_number next (Err Unread.Malformed) = omega arith
 
   -- in any case it keeps its limit
   pub number_small : (number_at s at end most).value ≤ most
@@ -71,14 +72,14 @@ type_here {s} {at} {end} {next} {forest} started low stands =
     ∙ ap (type_before next) (letters_name forest)
 
 module _ (s : List ℕ) (at end : ℕ) where
-  type_of : (next : ℕ) (bytes : List ℕ) → 0 < at → Stands s at (bytes ++ (end ∷ [])) next → (type : Named) → named bytes ≡ type
+  type_of : (next : ℕ) (bytes : List ℕ) → 0 < at → Stands s at (bytes ++ (end ∷ [])) next → (type : Option Forest) → named bytes ≡ type
       → 0 < (type_before next type).next → There s at (type_text (type_before next type).forest end) (type_before next type).next
   unfolding type_before type_text
-  type_of next bytes started stands (Named.Listed forest) e h = record {
+  type_of next bytes started stands (Some forest) e h = record {
     started = started;
     stands = subst (λ (l : List ℕ). Stands s at (l ++ (end ∷ [])) next) (only_letters_name bytes forest e) stands;
   }
-  type_of next bytes started stands Named.Unlisted e h = absurd (omega arith)
+  type_of next bytes started stands None e h = absurd (omega arith)
 
   pub type_there : 0 < (type_at s at end).next → There s at (type_text (type_at s at end).forest end) (type_at s at end).next
   unfolding type_at

@@ -1,8 +1,8 @@
 -- The places of a statement's areas in its bytes.
-use Rattle.std.specs.Prelude.{◌+◌, ◌∷◌}
+use Rattle.std.specs.Prelude.{◌+◌, ◌∷◌, Some, None, Option}
 use Rattle.laws.specs.{ℕ, zero, suc, List, [], length, code}
 use Rattle.text.specs.{line_end}
-use Rattle.holding.specs.{Area, Found, most_areas}
+use Rattle.holding.specs.{Area, most_areas}
 use Rattle.statement_cursor.specs.{NumberField, number_at, start_at}
 use Rattle.statement_parse.specs.{area_line_at}
 
@@ -31,10 +31,10 @@ unfoldable pub place_of : List ℕ → ℕ → ℕ
 place_of s k = place_after (after_area s) k (head_at s).next
 
 -- where the lines of an area that was looked for start and end: the end of the bytes, where it is not there
-unfoldable pub start_of : List ℕ → Found → ℕ
-start_of s (Found.At k) = place_of s k
-start_of s Found.Nowhere = length s
+unfoldable pub start_of : List ℕ → Option ℕ → ℕ
+start_of s (Some k) = place_of s k
+start_of s None = length s
 
-unfoldable pub end_of : List ℕ → Found → ℕ
-end_of s (Found.At k) = place_of s (k + 1)
-end_of s Found.Nowhere = length s
+unfoldable pub end_of : List ℕ → Option ℕ → ℕ
+end_of s (Some k) = place_of s (k + 1)
+end_of s None = length s

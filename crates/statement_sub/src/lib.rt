@@ -26,13 +26,7 @@ pub const SUBS_WIDTH: usize = SUB_WIDTH * MOST_SUBS;
 fn put_type(out: &mut [u8], at: usize, forest: Forest, end: u8) -> usize
     ensures { Put type_width out.old at (type_text forest end) out.new result }
 {
-    let letters = forest::write(forest);
-    let bytes = letters.bytes;
-    let next = text::put_byte(out, at, bytes[0]);
-    if 1 < letters.len {
-        let next = text::put_byte(out, next, bytes[1]);
-        return text::put_byte(out, next, end);
-    }
+    let next = text::put_bytes(out, at, forest::write(forest));
     text::put_byte(out, next, end)
 }
 

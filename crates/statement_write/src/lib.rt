@@ -27,20 +27,11 @@ fn put_years(out: &mut [u8], at: usize, area: Area) -> usize
     statement_field::put_short(out, next, area.latest, b',')
 }
 
-fn as_number(withdrawn: bool) -> u64
-    ensures { result ≡ flag withdrawn }
-{
-    if withdrawn {
-        return 1;
-    }
-    0
-}
-
 fn put_amounts(out: &mut [u8], at: usize, area: Area) -> usize
     ensures { Put amounts_width out.old at (amounts_text area) out.new result }
 {
     let stock = area.stock;
-    let withdrawn = as_number(area.withdrawn);
+    let withdrawn = u64::from(area.withdrawn);
     let next = statement_field::put_field(out, at, withdrawn, b',');
     let next = statement_field::put_short(out, next, area.returns, b',');
     let next = statement_field::put_field(out, next, stock.0, b',');
@@ -55,16 +46,9 @@ pub fn put_area(out: &mut [u8], at: usize, area: Area) -> usize
     let next = statement_field::put_start(out, at, b'A');
     let next = put_years(out, next, area);
     let next = put_amounts(out, next, area);
-    let n = area.count;
-    let mut next = statement_field::put_field(out, next, n as u64, b'\n');
-    let mut i: usize = 0;
-    while i < MOST_SUBS {
-        if n <= i {
-            return next;
-        }
-        let sub = area.subs[i];
-        next = statement_sub::put_sub(out, next, sub);
-        i += 1;
+    let mut next = statement_field::put_field(out, next, area.count as u64, b'\n');
+    for sub in area.standing() {
+        next = statement_sub::put_sub(out, next, *sub);
     }
     next
 }
@@ -74,17 +58,10 @@ pub fn put_statement(out: &mut [u8], at: usize, holding: Holding) -> usize
     ensures wrote { Wrote out.old at (statement_of holding) out.new result }
     ensures holding_len_bound { length (statement_of holding) ≤ statement_width }
 {
-    let n = holding.count;
     let start = statement_field::put_start(out, at, b'H');
-    let mut next = statement_field::put_field(out, start, n as u64, b'\n');
-    let mut i: usize = 0;
-    while i < MOST_AREAS {
-        if n <= i {
-            return next;
-        }
-        let area = holding.areas[i];
-        next = put_area(out, next, area);
-        i += 1;
+    let mut next = statement_field::put_field(out, start, holding.count as u64, b'\n');
+    for area in holding.standing() {
+        next = put_area(out, next, *area);
     }
     next
 }
@@ -97,8 +74,8 @@ pub fn write(holding: Holding, out: &mut [u8]) -> Written
     let mut unkept = [0u8; 1];
     let need = put_statement(&mut unkept, 0, holding);
     if out.len() < need {
-        return Written::Refused(Refusal::OutputShort);
+        return Err(Refusal::OutputShort);
     }
     let count = put_statement(out, 0, holding);
-    Written::Count(count)
+    Ok(count)
 }

@@ -1,4 +1,5 @@
 -- A step entered: what was called is what the step is made of; and under a list that is a table it is the act, under any other it is turned back.
+use Rattle.std.specs.Prelude.{Ok, Err}
 use Rattle.laws.proofs.{ℕ, ◌≤◌, Bool, true, false, cond, ◌≡◌, refl, sym, ap, subst, ◌∙◌, List, arith, leb, leb-false}
 use Rattle.refusals.specs.{Refusal, Verdict, number_of, weighed, smaller}
 use Rattle.schedules.specs.{schedule6}
@@ -27,19 +28,19 @@ module _ (own default : List ℕ) (holding : Holding) (on : AreaAct) (looked : L
   verdict_is : v ≡ smaller (judged own) (applied own schedule6 holding on).verdict
   verdict_is = w ∙ ap (λ (x : Verdict). smaller x outcome.verdict) t ∙ ap (λ (x : Outcome). smaller (judged own) x.verdict) outcome_is
 
-  pub entered-refused : (refusal : Refusal) (given : Outcome) → given ≡ turned_back refusal → v ≡ Verdict.Refused refusal → given ≡ stepped own holding on
+  pub entered-refused : (refusal : Refusal) (given : Outcome) → given ≡ turned_back refusal → v ≡ Err refusal → given ≡ stepped own holding on
   unfolding stepped
   entered-refused refusal given g e = refused _ v verdict_is refusal given _ g e
 
-  pub entered-taken : v ≡ Verdict.Accepted → outcome ≡ stepped own holding on
+  pub entered-taken : v ≡ Ok tt → outcome ≡ stepped own holding on
   unfolding stepped
   entered-taken e = taken _ v verdict_is outcome _ e outcome_is
 
 -- an outcome that its verdict was weighed into stays as it is
-answered_again : (v : Verdict) (outcome : Outcome) → outcome.verdict ≡ Verdict.Accepted → answered (answered v outcome).verdict (answered v outcome) ≡ answered v outcome
+answered_again : (v : Verdict) (outcome : Outcome) → outcome.verdict ≡ Ok tt → answered (answered v outcome).verdict (answered v outcome) ≡ answered v outcome
 unfolding answered
-answered_again Verdict.Accepted outcome e = rw e
-answered_again (Verdict.Refused r) outcome e = refl
+answered_again (Ok _) outcome e = rw e
+answered_again (Err r) outcome e = refl
 
 acted_again : (own default : List ℕ) (looked : Looked) (act : Act) → let outcome = acted own default looked act in answered outcome.verdict outcome ≡ outcome
 unfolding opened added cleared planted filed withdrawn
@@ -67,10 +68,10 @@ module _ (own : List ℕ) (holding : Holding) (on : AreaAct) where
       subst (λ (x : Verdict). P (answered (smaller x outcome.verdict) outcome)) (sym (judged_by own false e)) (by_verdict outcome.verdict outcome)
     where
       of_two : (b : Bool) (r : Refusal) (outcome : Outcome) → leb 6 (number_of r) ≡ b
-          → P (answered (cond b (Verdict.Refused Refusal.TableColumn) (Verdict.Refused r)) outcome)
+          → P (answered (cond b (Err Refusal.TableColumn) (Err r)) outcome)
       of_two true r outcome h = turned Refusal.TableColumn (omega arith)
       of_two false r outcome h = turned r (omega (arith, leb-false 6 (number_of r) h))
 
-      by_verdict : (v : Verdict) (outcome : Outcome) → P (answered (smaller (Verdict.Refused Refusal.TableColumn) v) outcome)
-      by_verdict Verdict.Accepted outcome = turned Refusal.TableColumn (omega arith)
-      by_verdict (Verdict.Refused r) outcome = of_two (leb 6 (number_of r)) r outcome refl
+      by_verdict : (v : Verdict) (outcome : Outcome) → P (answered (smaller (Err Refusal.TableColumn) v) outcome)
+      by_verdict (Ok _) outcome = turned Refusal.TableColumn (omega arith)
+      by_verdict (Err r) outcome = of_two (leb 6 (number_of r)) r outcome refl

@@ -1,5 +1,6 @@
 -- The verdict of a step is the smaller of the table's and of its act's cases, and the numbers of these do not fall: so what refuses a step is the
 -- smallest number that applies.
+use Rattle.std.specs.Prelude.{Ok, Err}
 use Rattle.laws.proofs.{ℕ, true, not, ◌≡◌, refl, sym, ap, subst, ◌∙◌, List, [], ◌∷◌, arith}
 use Rattle.refusals.specs.{Refusal, Verdict, number_of, Case, ◌⇒◌, weigh_all, smallest, smaller}
 use Rattle.refusals.proofs.Smallest.{Least, rises}
@@ -18,10 +19,10 @@ use Rattle.step_file.specs.{file_cases, filed}
 use Rattle.step_withdraw.specs.{withdraw_cases, withdrawn}
 use Rattle.step.specs.{act_cases, cases_of, acted, applied, stepped}
 
-answer_verdict : (v : Verdict) (outcome : Outcome) → (v ≡ Verdict.Accepted → outcome.verdict ≡ Verdict.Accepted) → (answered v outcome).verdict ≡ v
+answer_verdict : (v : Verdict) (outcome : Outcome) → (v ≡ Ok tt → outcome.verdict ≡ Ok tt) → (answered v outcome).verdict ≡ v
 unfolding answered
-answer_verdict Verdict.Accepted outcome e = e refl
-answer_verdict (Verdict.Refused refusal) outcome e = refl
+answer_verdict (Ok _) outcome e = e refl
+answer_verdict (Err refusal) outcome e = refl
 
 module _ (looked : Looked) where
   cases_rise : (act : Act) → rises 0 (act_cases looked act) ≡ true
@@ -59,7 +60,7 @@ module _ (own : List ℕ) (holding : Holding) (on : AreaAct) where
       ∙ ap (smaller (judged own)) applied-verdict
 
   -- "The smallest number that applies is given": no case of the table or of the act has a smaller one
-  pub refused-smallest : (refusal : Refusal) → (stepped own holding on).verdict ≡ Verdict.Refused refusal → Least (number_of refusal) (cases_of own holding on)
+  pub refused-smallest : (refusal : Refusal) → (stepped own holding on).verdict ≡ Err refusal → Least (number_of refusal) (cases_of own holding on)
   unfolding judged smallest weigh_all Least rises
   refused-smallest refusal e =
       let n = number_of refusal in

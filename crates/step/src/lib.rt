@@ -14,23 +14,7 @@ use step_outcome::Outcome;
 pub fn looks_up(act: Act) -> bool
     ensures { result ≡ looks_up act }
 {
-    match act {
-        Act::Open { opening: _ } => false,
-        Act::Add {
-            sub: _,
-            land: _,
-            forest: _,
-            planted: _,
-        } => true,
-        Act::Clear { sub: _, year: _ } => false,
-        Act::Plant {
-            sub: _,
-            forest: _,
-            year: _,
-        } => false,
-        Act::File { last: _ } => true,
-        Act::Withdraw => false,
-    }
+    matches!(act, Act::Add { .. } | Act::File { .. })
 }
 
 // An act on the area that was looked up. Both tables are lent, as whoever calls has judged them: the participant's, and the cells of Schedule 6.
@@ -64,7 +48,7 @@ pub fn enter(own: &[u16], holding: Holding, on: AreaAct) -> Outcome
     let act_verdict = outcome.verdict;
     let v = refusals::least(table_verdict, act_verdict);
     match v {
-        Verdict::Refused(refusal) => step_outcome::turned(refusal),
-        Verdict::Accepted => outcome,
+        Err(refusal) => step_outcome::turned(refusal),
+        Ok(()) => outcome,
     }
 }

@@ -8,34 +8,29 @@ ghost use Rattle.statement_carried.specs.{stock_for_sub};
 ghost use Rattle.step_add.specs.{new_sub, add_cases, added_area, added};
 
 use forest::Forest;
-use holding::{Area, Found, MOST_SUBS, Residue, Sub};
+use holding::{Area, MOST_SUBS, Residue, Sub};
 use holding_look::Looked;
 use refusals::{Refusal, Verdict};
 use step_outcome::{Outcome, Report};
 use units::Tenths;
 
-fn verdict(number: u16, sub: Sub, found: Found, area: Area) -> Verdict
+#[tactic(auto, unfolding(refusals::specs::Refusals::weigh_all, refusals::specs::Refusals::smallest, refusals::specs::Refusals::weighed, step_outcome::specs::Outcomes::area_cases, crate::specs::Adding::add_cases))]
+fn verdict(number: u16, sub: Sub, found: Option<usize>, area: Area) -> Verdict
     ensures { result ≡ smallest (add_cases number sub found area) }
 {
     let land = sub.tenths;
     let forest = sub.forest;
-    let used = holding_look::is_known(holding::find_sub(area, sub.number));
-    let v = refusals::weigh(
-        Verdict::Accepted,
+    refusals::refuse_if(
         !(ranges::is_area(number) & ranges::is_sub(sub.number)),
         Refusal::AreaOrSubNumber,
-    );
-    let v = refusals::weigh(v, !ranges::is_land(land), Refusal::Hectares);
-    let v = refusals::weigh(
-        v,
-        !ranges::is_planted(forest, sub.planted),
-        Refusal::YearRange,
-    );
-    let v = step_outcome::weigh_area(v, found, area);
-    let v = refusals::weigh(v, used, Refusal::SubUsed);
-    let v = refusals::weigh(v, MOST_SUBS <= area.count, Refusal::SubsFull);
-    let v = refusals::weigh(v, area.returns != 0, Refusal::AreaFiled);
-    refusals::weigh(v, area.opening < sub.planted, Refusal::PlantedAfterOpening)
+    )?;
+    refusals::refuse_if(!ranges::is_land(land), Refusal::Hectares)?;
+    refusals::refuse_if(!ranges::is_planted(forest, sub.planted), Refusal::YearRange)?;
+    step_outcome::weigh_area(Ok(()), found, area)?;
+    refusals::refuse_if(area.find_sub(sub.number).is_some(), Refusal::SubUsed)?;
+    refusals::refuse_if(MOST_SUBS <= area.count, Refusal::SubsFull)?;
+    refusals::refuse_if(area.returns != 0, Refusal::AreaFiled)?;
+    refusals::refuse_if(area.opening < sub.planted, Refusal::PlantedAfterOpening)
 }
 
 fn added_area<'a>(own: &'a [u16], default: &'a [u16], area: Area, sub: Sub) -> Area
@@ -59,9 +54,9 @@ fn add_sub<'a>(own: &'a [u16], default: &'a [u16], looked: Looked, sub: Sub) -> 
     let area = looked.area;
     let v = verdict(looked.number, sub, found, area);
     match v {
-        Verdict::Refused(refusal) => step_outcome::turned(refusal),
-        Verdict::Accepted => Outcome {
-            verdict: Verdict::Accepted,
+        Err(refusal) => step_outcome::turned(refusal),
+        Ok(()) => Outcome {
+            verdict: Ok(()),
             report: Report::Nothing,
             place: found,
             count: looked.count,

@@ -1,15 +1,15 @@
 -- "C,area,sub,year clears".
-use Rattle.std.specs.Prelude.{◌-◌, ◌&&◌, ◌||◌, ◌∷◌, ◌++◌}
+use Rattle.std.specs.Prelude.{◌-◌, ◌&&◌, ◌||◌, ◌∷◌, ◌++◌, Option}
 use Rattle.laws.specs.{ℕ, not, List, [], ltb}
 use Rattle.refusals.specs.{Case, ◌⇒◌, smallest, Refusal}
 use Rattle.forest.specs.{Forest}
 use Rattle.ranges.specs.{is_bare, is_area, is_sub, is_year}
-use Rattle.holding.specs.{Sub, Area, Found, with_trees, with_residue, find_sub}
+use Rattle.holding.specs.{Sub, Area, with_trees, with_residue, find_sub}
 use Rattle.holding_look.specs.{Looked, known, sub_at, with_sub}
 use Rattle.step_outcome.specs.{Outcome, accepted, answered, area_cases, Report}
 
 -- "28 sub unknown; 29 clearing bare land; .. 31 year before the open or latest year", of an area and a sub-area that were looked up
-unfoldable pub clear_cases : ℕ → ℕ → ℕ → Found → Area → List Case
+unfoldable pub clear_cases : ℕ → ℕ → ℕ → Option ℕ → Area → List Case
 clear_cases number sub year found area =
     let stand = find_sub area sub in
     not (is_area number && is_sub sub) ⇒ Refusal.AreaOrSubNumber

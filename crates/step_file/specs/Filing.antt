@@ -1,17 +1,17 @@
 -- "R,area,last: return from the open year to 31 December of last .."
-use Rattle.std.specs.Prelude.{◌+◌, ◌||◌, ◌∷◌, ◌++◌}
+use Rattle.std.specs.Prelude.{◌+◌, ◌||◌, ◌∷◌, ◌++◌, Option}
 use Rattle.laws.specs.{ℕ, min, not, List, [], ltb}
 use Rattle.refusals.specs.{Case, ◌⇒◌, smallest, Refusal}
 use Rattle.units.specs.{Change, change_between}
 use Rattle.ranges.specs.{is_area, is_year}
-use Rattle.holding.specs.{Area, Found, with_stock, with_units, with_returns}
+use Rattle.holding.specs.{Area, with_stock, with_units, with_returns}
 use Rattle.holding_look.specs.{Looked, balance_of}
 use Rattle.step_outcome.specs.{Report, Outcome, accepted, answered, area_cases}
 use Rattle.stocks.specs.{area_stock}
 use Rattle.step_file.specs.declared.Settled.{Settled}
 
 -- "31 year before the open or latest year", of an area that was looked up
-unfoldable pub file_cases : ℕ → ℕ → Found → Area → List Case
+unfoldable pub file_cases : ℕ → ℕ → Option ℕ → Area → List Case
 file_cases number last found area =
     not (is_area number) ⇒ Refusal.AreaOrSubNumber
     ∷ not (is_year last) ⇒ Refusal.YearRange

@@ -7,24 +7,20 @@ ghost use Rattle.refusals.specs.{smallest};
 ghost use Rattle.statement_carried.specs.{fields_carried};
 ghost use Rattle.step_file.specs.{file_cases, received_of, due_of, settled_of, filed};
 
-use holding::{Area, Found};
+use holding::Area;
 use holding_look::Looked;
 use refusals::{Refusal, Verdict};
 use step_outcome::{Filed, Outcome, Report};
 use units::Change;
 
-fn verdict(number: u16, last: u16, found: Found, area: Area) -> Verdict
+#[tactic(auto, unfolding(refusals::specs::Refusals::weigh_all, refusals::specs::Refusals::smallest, refusals::specs::Refusals::weighed, step_outcome::specs::Outcomes::area_cases, crate::specs::Filing::file_cases))]
+fn verdict(number: u16, last: u16, found: Option<usize>, area: Area) -> Verdict
     ensures { result ≡ smallest (file_cases number last found area) }
 {
-    let v = refusals::weigh(
-        Verdict::Accepted,
-        !ranges::is_area(number),
-        Refusal::AreaOrSubNumber,
-    );
-    let v = refusals::weigh(v, !ranges::is_year(last), Refusal::YearRange);
-    let v = step_outcome::weigh_area(v, found, area);
-    refusals::weigh(
-        v,
+    refusals::refuse_if(!ranges::is_area(number), Refusal::AreaOrSubNumber)?;
+    refusals::refuse_if(!ranges::is_year(last), Refusal::YearRange)?;
+    step_outcome::weigh_area(Ok(()), found, area)?;
+    refusals::refuse_if(
         (last < area.open_year) | (last < area.latest),
         Refusal::YearBefore,
     )
@@ -45,12 +41,7 @@ fn due(change: Change, balance: u64) -> u64
 {
     match change {
         Change::Gain(_) => 0,
-        Change::Loss(tonnes) => {
-            if tonnes < balance {
-                return tonnes;
-            }
-            balance
-        }
+        Change::Loss(tonnes) => tonnes.min(balance),
     }
 }
 
@@ -98,13 +89,13 @@ pub fn file<'a>(own: &'a [u16], default: &'a [u16], looked: Looked, last: u16) -
     let area = looked.area;
     let v = verdict(looked.number, last, found, area);
     match v {
-        Verdict::Refused(refusal) => step_outcome::turned(refusal),
-        Verdict::Accepted => {
+        Err(refusal) => step_outcome::turned(refusal),
+        Ok(()) => {
             let settled = settle(own, default, area, last);
             let report = settled.report;
             let after = settled.area;
             Outcome {
-                verdict: Verdict::Accepted,
+                verdict: Ok(()),
                 report,
                 place: found,
                 count: looked.count,

@@ -1,9 +1,9 @@
 -- "A,area,opening: opens an area on 1 January of opening .."
-use Rattle.std.specs.Prelude.{◌+◌, ◌∷◌}
+use Rattle.std.specs.Prelude.{◌+◌, ◌∷◌, Some}
 use Rattle.laws.specs.{ℕ, not, List, [], leb}
 use Rattle.refusals.specs.{Case, ◌⇒◌, smallest, Refusal}
 use Rattle.ranges.specs.{is_area, is_year}
-use Rattle.holding.specs.{most_areas, opened_area, Found}
+use Rattle.holding.specs.{most_areas, opened_area}
 use Rattle.holding_look.specs.{Looked, known}
 use Rattle.step_outcome.specs.{Outcome, accepted, answered, uncarried, Report}
 
@@ -21,4 +21,4 @@ open_cases looked opening =
 unfoldable pub opened : Looked → ℕ → Outcome
 opened looked opening =
     answered (smallest (open_cases looked opening))
-    (accepted Report.Nothing (Found.At looked.count) (looked.count + 1) (opened_area looked.number opening))
+    (accepted Report.Nothing (Some looked.count) (looked.count + 1) (opened_area looked.number opening))

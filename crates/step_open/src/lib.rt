@@ -5,25 +5,22 @@ ghost use Rattle.std.specs.Prelude.{◌≡◌};
 ghost use Rattle.refusals.specs.{smallest};
 ghost use Rattle.step_open.specs.{open_cases, opened};
 
-use holding::{Found, MOST_AREAS};
+use holding::MOST_AREAS;
 use holding_look::Looked;
 use refusals::{Refusal, Verdict};
 use step_outcome::{Outcome, Report};
 
+#[tactic(auto, unfolding(refusals::specs::Refusals::weigh_all, refusals::specs::Refusals::smallest, refusals::specs::Refusals::weighed, crate::specs::Opening::open_cases))]
 fn verdict(looked: Looked, opening: u16) -> Verdict
     ensures { result ≡ smallest (open_cases looked opening) }
 {
     let found = looked.found;
     let area = looked.area;
-    let v = refusals::weigh(
-        Verdict::Accepted,
-        !ranges::is_area(looked.number),
-        Refusal::AreaOrSubNumber,
-    );
-    let v = refusals::weigh(v, !ranges::is_year(opening), Refusal::YearRange);
-    let v = step_outcome::weigh_carried(v, found, area);
-    let v = refusals::weigh(v, holding_look::is_known(found), Refusal::AreaUsed);
-    refusals::weigh(v, MOST_AREAS <= looked.count, Refusal::AreasFull)
+    refusals::refuse_if(!ranges::is_area(looked.number), Refusal::AreaOrSubNumber)?;
+    refusals::refuse_if(!ranges::is_year(opening), Refusal::YearRange)?;
+    step_outcome::weigh_carried(Ok(()), found, area)?;
+    refusals::refuse_if(found.is_some(), Refusal::AreaUsed)?;
+    refusals::refuse_if(MOST_AREAS <= looked.count, Refusal::AreasFull)
 }
 
 // Opens the area of the number that was looked for.
@@ -32,17 +29,17 @@ pub fn open(looked: Looked, opening: u16) -> Outcome
 {
     let v = verdict(looked, opening);
     match v {
-        Verdict::Refused(refusal) => step_outcome::turned(refusal),
-        Verdict::Accepted => {
+        Err(refusal) => step_outcome::turned(refusal),
+        Ok(()) => {
             let count = looked.count;
             let mut area = holding::empty_area();
             area.number = looked.number;
             area.opening = opening;
             area.open_year = opening;
             Outcome {
-                verdict: Verdict::Accepted,
+                verdict: Ok(()),
                 report: Report::Nothing,
-                place: Found::At(count),
+                place: Some(count),
                 count: count + 1,
                 area,
             }

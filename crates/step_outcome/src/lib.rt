@@ -5,7 +5,7 @@ ghost use Rattle.std.specs.Prelude.{◌≡◌};
 ghost use Rattle.refusals.specs.{weighed, weigh_all};
 ghost use Rattle.step_outcome.specs.{turned_back, placed, uncarried, area_cases};
 
-use holding::{Area, Found, Holding, MOST_AREAS};
+use holding::{Area, Holding, MOST_AREAS};
 use refusals::{Refusal, Verdict};
 use units::Change;
 
@@ -34,7 +34,7 @@ pub enum Report {
 pub struct Outcome {
     pub verdict: Verdict,
     pub report: Report,
-    pub place: Found,
+    pub place: Option<usize>,
     pub count: usize,
     pub area: Area,
 }
@@ -44,16 +44,16 @@ pub fn turned(refusal: Refusal) -> Outcome
 {
     let area = holding::empty_area();
     Outcome {
-        verdict: Verdict::Refused(refusal),
+        verdict: Err(refusal),
         report: Report::Nothing,
-        place: Found::Nowhere,
+        place: None,
         count: 0,
         area,
     }
 }
 
 // 11: the area found has fields that no statement carries.
-pub fn weigh_carried(so_far: Verdict, found: Found, area: Area) -> Verdict
+pub fn weigh_carried(so_far: Verdict, found: Option<usize>, area: Area) -> Verdict
     ensures { result ≡ weighed so_far (uncarried found area) Refusal.CarriedStatement }
 {
     let known = holding_look::is_known(found);
@@ -63,7 +63,7 @@ pub fn weigh_carried(so_far: Verdict, found: Found, area: Area) -> Verdict
 
 // 11, 22, 23: for a step of an area that was looked up.
 #[tactic(auto, unfolding(refusals::specs::Refusals::weigh_all, crate::specs::Outcomes::area_cases, refusals::specs::Refusals::weighed))]
-pub fn weigh_area(so_far: Verdict, found: Found, area: Area) -> Verdict
+pub fn weigh_area(so_far: Verdict, found: Option<usize>, area: Area) -> Verdict
     ensures { result ≡ weigh_all so_far (area_cases found area) }
 {
     let v = weigh_carried(so_far, found, area);
@@ -79,7 +79,7 @@ pub fn place(holding: Holding, outcome: Outcome) -> Holding
 {
     let found = outcome.place;
     let mut after = holding;
-    if let Found::At(i) = found {
+    if let Some(i) = found {
         let area = outcome.area;
         if i < MOST_AREAS {
             after.areas[i] = area;

@@ -1,15 +1,15 @@
 -- "P,area,sub,type,year plants (type not B)".
-use Rattle.std.specs.Prelude.{◌&&◌, ◌||◌, ◌∷◌, ◌++◌}
+use Rattle.std.specs.Prelude.{◌&&◌, ◌||◌, ◌∷◌, ◌++◌, Option}
 use Rattle.laws.specs.{ℕ, not, List, [], ltb}
 use Rattle.refusals.specs.{Case, ◌⇒◌, smallest, Refusal}
 use Rattle.forest.specs.{Forest}
 use Rattle.ranges.specs.{is_bare, is_area, is_sub, is_year}
-use Rattle.holding.specs.{Sub, Area, Found, with_trees, find_sub}
+use Rattle.holding.specs.{Sub, Area, with_trees, find_sub}
 use Rattle.holding_look.specs.{Looked, known, sub_at, with_sub}
 use Rattle.step_outcome.specs.{Outcome, accepted, answered, area_cases, Report}
 
 -- "28 sub unknown; .. 30 planting under trees; 31 year before the open or latest year", of an area that was looked up
-unfoldable pub plant_cases : ℕ → ℕ → Forest → ℕ → Found → Area → List Case
+unfoldable pub plant_cases : ℕ → ℕ → Forest → ℕ → Option ℕ → Area → List Case
 plant_cases number sub forest year found area =
     let stand = find_sub area sub in
     not (is_area number && is_sub sub) ⇒ Refusal.AreaOrSubNumber

@@ -8,39 +8,36 @@ ghost use Rattle.holding_look.specs.{sub_at};
 ghost use Rattle.step_plant.specs.{plant_cases, planted_sub, planted};
 
 use forest::Forest;
-use holding::{Area, Found, Sub};
+use holding::{Area, Sub};
 use holding_look::{Looked, Stand};
 use refusals::{Refusal, Verdict};
 use step_outcome::{Outcome, Report};
 
 // By the sub-area as it stands.
+#[tactic(auto, unfolding(refusals::specs::Refusals::weigh_all, refusals::specs::Refusals::smallest, refusals::specs::Refusals::weighed, step_outcome::specs::Outcomes::area_cases, crate::specs::Planting::plant_cases))]
 fn verdict(
     number: u16,
     sub: u16,
     forest: Forest,
     year: u16,
-    found: Found,
+    found: Option<usize>,
     area: Area,
     stand: Stand,
 ) -> Verdict
     requires { (stand.found ≡ find_sub area sub) × (stand.sub ≡ sub_at area (find_sub area sub)) }
     ensures { result ≡ smallest (plant_cases number sub forest year found area) }
 {
-    let at = stand.found;
-    let before = stand.sub;
-    let standing = before.forest;
-    let v = refusals::weigh(
-        Verdict::Accepted,
+    let standing = stand.sub.forest;
+    refusals::refuse_if(
         !(ranges::is_area(number) & ranges::is_sub(sub)),
         Refusal::AreaOrSubNumber,
-    );
-    let v = refusals::weigh(v, ranges::is_bare(forest), Refusal::ForestType);
-    let v = refusals::weigh(v, !ranges::is_year(year), Refusal::YearRange);
-    let v = step_outcome::weigh_area(v, found, area);
-    let v = refusals::weigh(v, !holding_look::is_known(at), Refusal::SubUnknown);
-    let v = refusals::weigh(v, !ranges::is_bare(standing), Refusal::PlantingUnderTrees);
-    refusals::weigh(
-        v,
+    )?;
+    refusals::refuse_if(ranges::is_bare(forest), Refusal::ForestType)?;
+    refusals::refuse_if(!ranges::is_year(year), Refusal::YearRange)?;
+    step_outcome::weigh_area(Ok(()), found, area)?;
+    refusals::refuse_if(stand.found.is_none(), Refusal::SubUnknown)?;
+    refusals::refuse_if(!ranges::is_bare(standing), Refusal::PlantingUnderTrees)?;
+    refusals::refuse_if(
         (year < area.open_year) | (year < area.latest),
         Refusal::YearBefore,
     )
@@ -70,9 +67,9 @@ pub fn plant(looked: Looked, sub: u16, forest: Forest, year: u16) -> Outcome
     let before = stand.sub;
     let v = verdict(looked.number, sub, forest, year, found, area, stand);
     match v {
-        Verdict::Refused(refusal) => step_outcome::turned(refusal),
-        Verdict::Accepted => Outcome {
-            verdict: Verdict::Accepted,
+        Err(refusal) => step_outcome::turned(refusal),
+        Ok(()) => Outcome {
+            verdict: Ok(()),
             report: Report::Nothing,
             place: found,
             count: looked.count,

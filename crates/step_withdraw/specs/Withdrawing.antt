@@ -1,13 +1,13 @@
 -- "W,area: withdraws the area."
-use Rattle.std.specs.Prelude.{◌+◌, ◌∷◌}
+use Rattle.std.specs.Prelude.{◌+◌, ◌∷◌, Option}
 use Rattle.laws.specs.{ℕ, not, List}
 use Rattle.refusals.specs.{Case, ◌⇒◌, smallest, Refusal}
 use Rattle.ranges.specs.{is_area}
-use Rattle.holding.specs.{Area, Found, with_units, as_withdrawn}
+use Rattle.holding.specs.{Area, with_units, as_withdrawn}
 use Rattle.holding_look.specs.{Looked, balance_of}
 use Rattle.step_outcome.specs.{Outcome, accepted, answered, area_cases, Report}
 
-unfoldable pub withdraw_cases : ℕ → Found → Area → List Case
+unfoldable pub withdraw_cases : ℕ → Option ℕ → Area → List Case
 withdraw_cases number found area = not (is_area number) ⇒ Refusal.AreaOrSubNumber ∷ area_cases found area
 
 -- "W makes the whole balance due."

@@ -5,20 +5,17 @@ ghost use Rattle.std.specs.Prelude.{◌≡◌};
 ghost use Rattle.refusals.specs.{smallest};
 ghost use Rattle.step_withdraw.specs.{withdraw_cases, withdrawn};
 
-use holding::{Area, Found};
+use holding::Area;
 use holding_look::Looked;
 use refusals::{Refusal, Verdict};
 use step_outcome::{Outcome, Report};
 
-fn verdict(number: u16, found: Found, area: Area) -> Verdict
+#[tactic(auto, unfolding(refusals::specs::Refusals::weigh_all, refusals::specs::Refusals::smallest, refusals::specs::Refusals::weighed, step_outcome::specs::Outcomes::area_cases, crate::specs::Withdrawing::withdraw_cases))]
+fn verdict(number: u16, found: Option<usize>, area: Area) -> Verdict
     ensures { result ≡ smallest (withdraw_cases number found area) }
 {
-    let v = refusals::weigh(
-        Verdict::Accepted,
-        !ranges::is_area(number),
-        Refusal::AreaOrSubNumber,
-    );
-    step_outcome::weigh_area(v, found, area)
+    refusals::refuse_if(!ranges::is_area(number), Refusal::AreaOrSubNumber)?;
+    step_outcome::weigh_area(Ok(()), found, area)
 }
 
 pub fn withdraw(looked: Looked) -> Outcome
@@ -28,14 +25,14 @@ pub fn withdraw(looked: Looked) -> Outcome
     let area = looked.area;
     let v = verdict(looked.number, found, area);
     match v {
-        Verdict::Refused(refusal) => step_outcome::turned(refusal),
-        Verdict::Accepted => {
+        Err(refusal) => step_outcome::turned(refusal),
+        Ok(()) => {
             let due = area.received - area.surrendered;
             let mut after = area;
             after.withdrawn = true;
             after.surrendered = area.surrendered + due;
             Outcome {
-                verdict: Verdict::Accepted,
+                verdict: Ok(()),
                 report: Report::Withdrawal {
                     area: area.number,
                     due,

@@ -4,7 +4,7 @@
 ghost use Rattle.std.specs.Prelude.{◌≡◌, ◌*◌, ◌≤◌};
 ghost use Rattle.stocks.specs.{trees_on, residue_on, sub_stock, area_stock};
 
-use holding::{Area, MOST_SUBS, Sub};
+use holding::{Area, Sub};
 use schedules::Kind;
 use units::Kilograms;
 
@@ -51,17 +51,10 @@ pub fn sub_stock<'a>(own: &'a [u16], default: &'a [u16], sub: Sub, year: u16) ->
 pub fn area_stock<'a>(own: &'a [u16], default: &'a [u16], area: Area, year: u16) -> Kilograms
     ensures { result ≡ area_stock own.now default.now area year }
 {
-    let n = area.count;
     let mut sum = Kilograms::none();
-    let mut i: usize = 0;
-    while i < MOST_SUBS {
-        if n <= i {
-            return sum;
-        }
-        let sub = area.subs[i];
-        let stock = sub_stock(own, default, sub, year);
+    for sub in area.standing() {
+        let stock = sub_stock(own, default, *sub, year);
         sum = sum.plus(stock);
-        i += 1;
     }
     sum
 }

@@ -19,14 +19,7 @@ pub const LONGEST_TABLE: usize = COLUMNS + COLUMNS * LONGEST_COLUMN as usize;
 pub fn each_at_most(numbers: &[u16], ceiling: u16) -> bool
     ensures { result ≡ each_at_most ceiling numbers.now }
 {
-    let mut i = 0;
-    while i < numbers.len() {
-        if ceiling < numbers[i] {
-            return false;
-        }
-        i += 1;
-    }
-    true
+    numbers.iter().all(|number| *number <= ceiling)
 }
 
 // Ten lengths, as many cells as they say, and each within its bound.
@@ -36,7 +29,7 @@ pub fn has_columns(table: &[u16]) -> bool
     if table.len() < COLUMNS {
         return false;
     }
-    let lengths = &table[0..COLUMNS];
+    let lengths = &table[..COLUMNS];
     let cells = &table[COLUMNS..];
     let whole = cells.len() == table_parts::cells_before(table, COLUMNS);
     let short = each_at_most(lengths, LONGEST_COLUMN);
@@ -48,7 +41,7 @@ pub fn has_columns(table: &[u16]) -> bool
 pub fn judge(table: &[u16]) -> Verdict
     ensures { result ≡ judged table.now }
 {
-    let none = table.len() == 0;
+    let none = table.is_empty();
     let kept = has_columns(table);
-    refusals::weigh(Verdict::Accepted, !(none | kept), Refusal::TableColumn)
+    refusals::refuse_if(!(none | kept), Refusal::TableColumn)
 }

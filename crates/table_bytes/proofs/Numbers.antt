@@ -1,6 +1,7 @@
 -- The numbers of bytes, a number at a time as the loop goes, and what a clear verdict says of them.
+use Rattle.std.specs.Prelude.{Ok}
 use Rattle.laws.proofs.{ℕ, suc, ◌+◌, ◌*◌, ◌/◌, ◌%◌, ◌<◌, ◌≤◌, ◌≡◌, refl, sym, ap, ◌∙◌, List, [], ◌∷◌, add-one, arith, length, get_or, set, drop, drop_of_length-le, drop-cons, sets, eqb-true, ltb-false, not-false, not, eqb, ltb}
-use Rattle.refusals.specs.{weighed, weigh_all, smallest, Refusal, Verdict}
+use Rattle.refusals.specs.{weighed, weigh_all, smallest, Refusal}
 use Rattle.refusals.proofs.Laws.{clear_before, clear_last}
 use Rattle.table.specs.{longest_table}
 use Rattle.table_bytes.specs.{numbers_of, decodable}
@@ -30,17 +31,17 @@ module _ (b : List ℕ) (i : ℕ) where
   numbers_end out h = rw (drop_of_length-le b h)
 
 -- what a clear verdict says of the bytes and the room
-pub clear_decodable : (bytes : List ℕ) (room : ℕ) → decodable bytes room ≡ Verdict.Accepted → (length bytes % 2 ≡ 0) × (length bytes / 2 ≤ room)
+pub clear_decodable : (bytes : List ℕ) (room : ℕ) → decodable bytes room ≡ Ok tt → (length bytes % 2 ≡ 0) × (length bytes / 2 ≤ room)
 unfolding decodable smallest weigh_all
 clear_decodable bytes room e =
     let before = clear_before _ _ Refusal.OutputShort e in (
-      eqb-true _ _ (not-false _ (clear_last Verdict.Accepted _ Refusal.TableColumn (clear_before _ _ Refusal.TableColumn before))),
+      eqb-true _ _ (not-false _ (clear_last (Ok tt) _ Refusal.TableColumn (clear_before _ _ Refusal.TableColumn before))),
       ltb-false _ _ (clear_last _ _ Refusal.OutputShort e),
     )
 
--- the verdict, case by case, is the rule's
-pub verdict_of : (bytes : List ℕ) (room : ℕ) (a b v : Verdict) → a ≡ weighed Verdict.Accepted (not (eqb (length bytes % 2) 0)) Refusal.TableColumn
-    → b ≡ weighed a (ltb longest_table (length bytes / 2)) Refusal.TableColumn → v ≡ weighed b (ltb room (length bytes / 2)) Refusal.OutputShort
-    → v ≡ decodable bytes room
+-- and where it is clear
+pub all_clear : (bytes : List ℕ) (room : ℕ) → weighed (Ok tt) (not (eqb (length bytes % 2) 0)) Refusal.TableColumn ≡ Ok tt
+    → weighed (Ok tt) (ltb longest_table (length bytes / 2)) Refusal.TableColumn ≡ Ok tt → weighed (Ok tt) (ltb room (length bytes / 2)) Refusal.OutputShort ≡ Ok tt
+    → decodable bytes room ≡ Ok tt
 unfolding decodable smallest weigh_all
-verdict_of bytes room a b v e f g = simp (g, f, e)
+all_clear bytes room odd long short = simp (odd, long, short)

@@ -1,10 +1,10 @@
 -- A table that a T line extends stays a table: the column had no cells, so the sum of the lengths grows by as many cells as come behind.
+use Rattle.std.specs.Prelude.{Ok}
 use Rattle.laws.proofs.{ℕ, ◌+◌, ◌≤◌, ◌<◌, true, ◌≡◌, sym, ap, ◌∙◌, List, ◌++◌, arith, length, get_or, set, take, drop, length-set, length-take, length-append, get_or-drop, leb-false, ltb-false, not-false}
 use native.Mathlib.Nat.{add-zero}
 use lib.Seq.{take_at, drop_at}
 use Rattle.laws.specs.{each_at_most, sum_of}
 use Rattle.laws.proofs.Lists.{ceiling_at, ceiling_set, ceiling_append, sum-set}
-use Rattle.refusals.specs.{Verdict}
 use Rattle.refusals.proofs.Laws.{ruled_out}
 use Rattle.schedules.specs.{cell_ceiling}
 use Rattle.table_parts.specs.{column_count, lengths_of, cells_of}
@@ -40,7 +40,7 @@ module _ (table : List ℕ) (column : ℕ) (cells : List ℕ) where
         low = ap (each_at_most cell_ceiling) behind ∙ ceiling_append cell_ceiling (cells_of table) cells k.low low;
       }
 
-  pub extended_table : (room : ℕ) → extensible table column cells room ≡ Verdict.Accepted → is_table (longer table column cells) ≡ true
+  pub extended_table : (room : ℕ) → extensible table column cells room ≡ Ok tt → is_table (longer table column cells) ≡ true
   unfolding extensible
   extended_table room e =
       let n = ruled_out _ e in

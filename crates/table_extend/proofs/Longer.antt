@@ -1,9 +1,10 @@
 -- The longer table as it is stored: the table that stands with the column's length entered, then the column's cells.
+use Rattle.std.specs.Prelude.{Ok}
 use Rattle.laws.proofs.{ℕ, ◌+◌, ◌<◌, ◌≤◌, ◌≡◌, sym, ap, ◌∙◌, true, List, ◌++◌, append_assoc, arith, length, set, take, drop, length-set, length-take, length-append, take-append-drop, sets, leb-true, leb-false, ltb-false, not-false}
 use lib.Seq.{set-append_left}
 use Rattle.laws.proofs.Lists.{and_left}
 use Rattle.laws.proofs.Stores.{stored-behind}
-use Rattle.refusals.specs.{weigh_all, smallest, Refusal, Verdict}
+use Rattle.refusals.specs.{weigh_all, smallest, Refusal}
 use Rattle.refusals.proofs.Laws.{clear_before, clear_last}
 use Rattle.table.specs.{has_columns}
 use Rattle.table_extend.specs.{longer, extensible}
@@ -39,7 +40,7 @@ pub record Extensible (table : List ℕ) (column : ℕ) (cells : List ℕ) (room
   pub short : length cells ≤ 101
   pub room_for : length table + length cells ≤ room
 
-pub clear_extensible : (table : List ℕ) (column : ℕ) (cells : List ℕ) (room : ℕ) → extensible table column cells room ≡ Verdict.Accepted → Extensible table column cells room
+pub clear_extensible : (table : List ℕ) (column : ℕ) (cells : List ℕ) (room : ℕ) → extensible table column cells room ≡ Ok tt → Extensible table column cells room
 unfolding extensible smallest weigh_all
 clear_extensible table column cells room e =
     let six = clear_before _ _ Refusal.OutputShort e in
@@ -49,7 +50,7 @@ clear_extensible table column cells room e =
     let two = clear_before _ _ Refusal.TableColumn three in
     let one = clear_before _ _ Refusal.TableColumn two in
     record {
-      whole = columns_ten table (not-false _ (clear_last Verdict.Accepted _ Refusal.TableColumn one));
+      whole = columns_ten table (not-false _ (clear_last (Ok tt) _ Refusal.TableColumn one));
       in_range = leb-false _ _ (clear_last _ _ Refusal.TableColumn two);
       short = ltb-false _ _ (clear_last _ _ Refusal.TableColumn four);
       room_for = ltb-false _ _ (clear_last _ _ Refusal.OutputShort e);

@@ -2,13 +2,12 @@
 #![tactic(auto)]
 
 ghost use Rattle.std.specs.Prelude.{◌≡◌, ◌++◌, ◌+◌, ◌<◌, ◌≤◌, length, take, drop};
-ghost use Rattle.std.proofs.lemmas.List.Edits.{sets};
 ghost use Rattle.table_parts.specs.{column_count};
 ghost use Rattle.table.specs.{longest_column};
 ghost use Rattle.refusals.specs.{written, buffer_after};
 ghost use Rattle.table_extend.specs.{begun, is_free, longer, extensible};
 
-use refusals::{Refusal, Verdict, Written};
+use refusals::{Refusal, Verdict, Written, refuse_if};
 
 // Whether neither the column nor a later one has cells.
 fn is_free(table: &[u16], column: usize) -> bool
@@ -20,23 +19,22 @@ fn is_free(table: &[u16], column: usize) -> bool
 }
 
 // What refuses a column on a table that is begun.
+#[tactic(auto, unfolding(crate::specs::Extension::extensible, refusals::specs::Refusals::smallest, refusals::specs::Refusals::weigh_all, refusals::specs::Refusals::weighed))]
 fn judge_begun(table: &[u16], column: usize, cells: &[u16], room: usize) -> Verdict
     ensures { result ≡ extensible table.now column cells.now room }
 {
-    let whole = table::has_columns(table);
-    let v = refusals::weigh(Verdict::Accepted, !whole, Refusal::TableColumn);
-    let v = refusals::weigh(v, table_parts::COLUMNS <= column, Refusal::TableColumn);
-    let v = refusals::weigh(v, cells.len() == 0, Refusal::TableColumn);
-    let v = refusals::weigh(
-        v,
+    refuse_if(!table::has_columns(table), Refusal::TableColumn)?;
+    refuse_if(table_parts::COLUMNS <= column, Refusal::TableColumn)?;
+    refuse_if(cells.is_empty(), Refusal::TableColumn)?;
+    refuse_if(
         (table::LONGEST_COLUMN as usize) < cells.len(),
         Refusal::TableColumn,
-    );
+    )?;
     let low = table::each_at_most(cells, table::CELL_CEILING);
-    let v = refusals::weigh(v, !low, Refusal::TableColumn);
+    refuse_if(!low, Refusal::TableColumn)?;
     let free = is_free(table, column);
-    let v = refusals::weigh(v, !free, Refusal::TableColumn);
-    refusals::weigh(v, room < table.len() + cells.len(), Refusal::OutputShort)
+    refuse_if(!free, Refusal::TableColumn)?;
+    refuse_if(room < table.len() + cells.len(), Refusal::OutputShort)
 }
 
 // What refuses a column on the table that is the first `count` of the numbers, where there is room for as many as they are.
@@ -44,22 +42,11 @@ pub fn judge(numbers: &[u16], count: usize, column: usize, cells: &[u16]) -> Ver
     ensures { result ≡ extensible (begun (take count numbers.now)) column cells.now (length numbers.now) }
 {
     let own = table_parts::part(numbers, 0, count);
-    if own.len() == 0 {
+    if own.is_empty() {
         let no_columns = [0u16; table_parts::COLUMNS];
         return judge_begun(&no_columns, column, cells, numbers.len());
     }
     judge_begun(own, column, cells, numbers.len())
-}
-
-fn put_all(numbers: &[u16], out: &mut [u16], at: usize)
-    requires { at + length numbers.now ≤ length out.old }
-    ensures { out.new ≡ sets out.old at numbers.now }
-{
-    let mut i = 0;
-    while i < numbers.len() {
-        out[at + i] = numbers[i];
-        i += 1;
-    }
 }
 
 // Puts ten lengths of 0 to the front where there is no table yet: how many numbers the table has then.
@@ -71,8 +58,7 @@ fn begin(numbers: &mut [u16], count: usize) -> usize
 {
     let many = table_parts::part(numbers, 0, count).len();
     if many == 0 {
-        let no_columns = [0u16; table_parts::COLUMNS];
-        put_all(&no_columns, numbers, 0);
+        numbers[..table_parts::COLUMNS].fill(0);
         return table_parts::COLUMNS;
     }
     many
@@ -87,7 +73,7 @@ fn put_longer(numbers: &mut [u16], count: usize, column: usize, cells: &[u16]) -
 {
     let many = begin(numbers, count);
     numbers[column] = cells.len() as u16;
-    put_all(cells, numbers, many);
+    numbers[many..many + cells.len()].copy_from_slice(cells);
     many + cells.len()
 }
 
@@ -96,9 +82,6 @@ pub fn extend(numbers: &mut [u16], count: usize, column: usize, cells: &[u16]) -
     ensures value { result ≡ written (extensible (begun (take count numbers.old)) column cells.now (length numbers.old)) (longer (begun (take count numbers.old)) column cells.now) }
     ensures numbers_after { numbers.new ≡ buffer_after (extensible (begun (take count numbers.old)) column cells.now (length numbers.old)) (longer (begun (take count numbers.old)) column cells.now) numbers.old }
 {
-    let v = judge(numbers, count, column, cells);
-    match v {
-        Verdict::Refused(refusal) => Written::Refused(refusal),
-        Verdict::Accepted => Written::Count(put_longer(numbers, count, column, cells)),
-    }
+    judge(numbers, count, column, cells)?;
+    Ok(put_longer(numbers, count, column, cells))
 }

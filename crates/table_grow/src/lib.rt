@@ -26,11 +26,8 @@ fn grow_by(
     if areas == 0 {
         return table_extend::extend(numbers, count, column, cells);
     }
-    let v = table_extend::judge(numbers, count, column, cells);
-    match v {
-        Verdict::Refused(refusal) => Written::Refused(refusal),
-        Verdict::Accepted => Written::Refused(Refusal::TableAfterArea),
-    }
+    table_extend::judge(numbers, count, column, cells)?;
+    Err(Refusal::TableAfterArea)
 }
 
 // Extends by a T line the table that is the first `count` of the numbers, where so many areas stand: how many numbers it has then, or why it is left.
@@ -40,11 +37,6 @@ pub fn grow(numbers: &mut [u16; LONGEST_TABLE], count: usize, areas: usize, line
 {
     let mut cells = [0u16; MOST_CELLS];
     let read = line::read_column(line, &mut cells);
-    let verdict = read.verdict;
-    let column = read.column;
-    let many = read.count;
-    match verdict {
-        Verdict::Refused(of_line) => Written::Refused(of_line),
-        Verdict::Accepted => grow_by(numbers, count, areas, column, &cells[0..many]),
-    }
+    read.verdict?;
+    grow_by(numbers, count, areas, read.column, &cells[..read.count])
 }

@@ -1,10 +1,8 @@
 -- A lent table: its lengths are the first ten numbers or ten of 0, and the column that its parts give is the list's own.
-use Rattle.laws.proofs.{ℕ, ◌+◌, ◌<◌, ◌≤◌, ◌≡◌, sym, ap, ◌∙◌, List, [], ◌++◌, append-nil, ◌⊎◌, inl, inr, arith, le-leb, lt-leb, length, get_or, set, take, drop, replicate, length-take, drop_of_length-le, sets, drop-drop, get_or-take}
-use native.Mathlib.Nat.{zero-add}
+use Rattle.laws.proofs.{ℕ, ◌+◌, ◌<◌, ◌≤◌, ◌≡◌, sym, ap, ◌∙◌, List, [], ◌⊎◌, inl, inr, arith, le-leb, lt-leb, length, get_or, take, replicate, drop_of_length-le, drop-drop}
 use lib.ListN.{get_or-eq_default}
 use Rattle.laws.specs.{sum_of}
 use Rattle.laws.proofs.Order.{below_or_not}
-use Rattle.laws.proofs.Stores.{store_goes_on, stored-in_front}
 use Rattle.table_parts.specs.{cells_of, length_of}
 use Rattle.table_parts.proofs.Parts.{part_past}
 use Rattle.table_lent.specs.{own_column, lent_lengths, lent_column}
@@ -14,22 +12,9 @@ module _ (table : List ℕ) where
   unfolding lent_lengths
   no_lengths h = simp (lt-leb 10 (length table) h)
 
-  ten_lengths : 10 ≤ length table → take 10 table ≡ lent_lengths table
+  pub ten_lengths : 10 ≤ length table → take 10 table ≡ lent_lengths table
   unfolding lent_lengths
   ten_lengths h = simp (le-leb 10 (length table) h)
-
-  -- stored over ten of 0, the first ten numbers are all the lengths
-  pub lengths_stored : 10 ≤ length table → sets (replicate 10 0) 0 (take 10 table) ≡ lent_lengths table
-  lengths_stored h =
-      stored-in_front (take 10 table) (replicate 10 0) (simp length-take (omega arith))
-      ∙ ap (λ (l : List ℕ). take 10 table ++ l) (drop_of_length-le (replicate 10 0) {i = length (take 10 table)} (simp length-take (omega arith)))
-      ∙ append-nil (take 10 table)
-      ∙ ten_lengths h
-
-  pub length_goes_on : (lengths : List ℕ) (i : ℕ) → 10 ≤ length table → i < 10
-      → sets (set lengths i (get_or table i 0)) (i + 1) (drop (i + 1) (take 10 table)) ≡ sets lengths i (drop i (take 10 table))
-  length_goes_on lengths i h k =
-      rw (← get_or-take 10 table i 0 k) (simp zero-add at (store_goes_on (take 10 table) lengths 0 0 i (simp length-take (omega arith))))
 
   no_cells : length table < 10 → [] ≡ cells_of table
   no_cells h = sym (drop_of_length-le table {i = 10} (omega arith))

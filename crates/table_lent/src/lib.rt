@@ -16,16 +16,10 @@ pub struct LentTable<'a> {
 fn lengths_of(table: &[u16]) -> [u16; COLUMNS]
     ensures { result ≡ lent_lengths table.now }
 {
-    let mut lengths = [0u16; COLUMNS];
-    if table.len() < COLUMNS {
-        return lengths;
+    match table.first_chunk::<COLUMNS>() {
+        Some(lengths) => *lengths,
+        None => [0; COLUMNS],
     }
-    let mut i = 0;
-    while i < COLUMNS {
-        lengths[i] = table[i];
-        i += 1;
-    }
-    lengths
 }
 
 fn cells_of(table: &[u16]) -> &[u16]
@@ -51,7 +45,7 @@ fn column_in(cells: &[u16], lengths: [u16; COLUMNS], number: usize) -> &[u16]
     if COLUMNS <= number {
         return &cells[0..0];
     }
-    let start = table_parts::cells_before(&lengths[0..COLUMNS], number);
+    let start = table_parts::cells_before(&lengths, number);
     table_parts::part(cells, start, lengths[number] as usize)
 }
 

@@ -1,8 +1,8 @@
--- A column's length is among the first ten numbers, and the lengths before it are summed a number at a time.
-use Rattle.laws.proofs.{ℕ, ◌+◌, ◌<◌, ◌≤◌, ◌≡◌, sym, List, arith, length, get_or, take, drop, length-take, get_or-take}
+-- What is no column has no length, and the lengths before a column are among the first ten numbers.
+use Rattle.laws.proofs.{ℕ, ◌≤◌, ◌<◌, ◌≡◌, sym, ap, ◌∙◌, List, ⊎_elim, arith, min, length, take, take_all, length-take}
+use Rattle.laws.proofs.Order.{below_or_not}
+use Rattle.std.proofs.lemmas.List.{take-take}
 use lib.ListN.{get_or-eq_default}
-use Rattle.laws.specs.{sum_of}
-use Rattle.laws.proofs.Lists.{sum_goes_on}
 use Rattle.table_parts.specs.{length_of}
 
 module _ (table : List ℕ) (number : ℕ) where
@@ -15,12 +15,11 @@ module _ (table : List ℕ) (number : ℕ) where
   unfolding length_of
   past_length h = sym (get_or-eq_default (take 10 table) 0 {n = number} (simp length-take (omega arith)))
 
-  pub length-read : number < 10 → get_or table number 0 ≡ length_of table number
-  unfolding length_of
-  length-read h = sym (get_or-take 10 table number 0 h)
+  pub lengths_cut : (k : ℕ) → k ≡ min 10 number → take k table ≡ take number (take 10 table)
+  lengths_cut k e = ⊎_elim few all (below_or_not number 10)
+    where
+      few : number < 10 → take k table ≡ take number (take 10 table)
+      few h = let n : k ≡ number = omega arith in ap (λ (n : ℕ). take n table) n ∙ sym (take-take number 10 table (omega arith))
 
-  pub cells_go_on : (i : ℕ) → i < length table → i < 10 → i < number
-      → sum_of (drop i (take number (take 10 table))) ≡ get_or table i 0 + sum_of (drop (i + 1) (take number (take 10 table)))
-  cells_go_on i h k m =
-      rw (← get_or-take 10 table i 0 k, ← get_or-take number (take 10 table) i 0 m)
-      (sum_goes_on (take number (take 10 table)) i (simp length-take (omega arith)))
+      all : 10 ≤ number → take k table ≡ take number (take 10 table)
+      all h = let n : k ≡ 10 = omega arith in ap (λ (n : ℕ). take n table) n ∙ sym (take_all number (take 10 table) (omega (arith, length-take 10 table)))

@@ -32,27 +32,16 @@ pub fn column_number(kind: u8, letter: u8) -> usize
 pub fn part(numbers: &[u16], start: usize, len: usize) -> &[u16]
     ensures { result.now ≡ take len (drop start numbers.now) }
 {
-    if numbers.len() <= start {
-        return &numbers[0..0];
-    }
-    if numbers.len() - start <= len {
-        return &numbers[start..];
-    }
-    let end = start + len;
-    &numbers[start..end]
+    let rest = &numbers[start.min(numbers.len())..];
+    &rest[..len.min(rest.len())]
 }
 
 // The length of a column by its number, of which there are ten.
 pub fn column_length(table: &[u16], number: usize) -> usize
     ensures { result ≡ length_of table.now number }
 {
-    if table.len() <= number {
-        return 0;
-    }
-    if COLUMNS <= number {
-        return 0;
-    }
-    table[number] as usize
+    let lengths = part(table, 0, COLUMNS);
+    lengths.get(number).copied().unwrap_or(0) as usize
 }
 
 // How many cells lie before those of a column, by its number; past the last number, how many there are.
@@ -61,16 +50,8 @@ pub fn cells_before(table: &[u16], number: usize) -> usize
     ensures { result ≡ sum_of (take number (lengths_of table.now)) }
 {
     let mut cells: usize = 0;
-    let mut i = 0;
-    while i < table.len() {
-        if number <= i {
-            return cells;
-        }
-        if COLUMNS <= i {
-            return cells;
-        }
-        cells += table[i] as usize;
-        i += 1;
+    for length in part(table, 0, COLUMNS.min(number)) {
+        cells += *length as usize;
     }
     cells
 }

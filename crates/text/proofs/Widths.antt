@@ -1,7 +1,13 @@
 -- How far it is to a byte: what a scan for it finds at an index, and what stands before it and behind it. What bytes parted by it are follows,
 -- for fields and for lines alike, from how a byte in front of them is parted.
-use Rattle.laws.proofs.{ℕ, suc, ◌+◌, ◌-◌, ◌≤◌, ◌<◌, ◌≡◌, refl, ap, ◌∙◌, Bool, true, false, cond, List, [], ◌∷◌, ◌++◌, arith, add-one, eqb, length, get_or, take, drop, length-drop, drop_of_length-le, drop-cons, drop-drop, take_all, eq-eqb, ne_eqb, eqb-true}
-use Rattle.text.specs.{width_to, extend}
+use Rattle.std.specs.Prelude.{Option, Some, None}
+use Rattle.std.specs.List.{list_any, position_or_len}
+use Rattle.std.specs.Option.{unwrap_or}
+use Rattle.std.proofs.lemmas.List.Recursion.{is_position_or_len}
+use Rattle.std.proofs.Math.Numerals.{one-add}
+use Rattle.laws.proofs.{ℕ, suc, ◌||◌, ⊎_elim, ltb, ltb-false, lt-ltb, le-ltb, ◌+◌, ◌-◌, ◌≤◌, ◌<◌, ◌≡◌, refl, sym, ap, ◌∙◌, Bool, true, false, cond, List, [], ◌∷◌, ◌++◌, arith, add-one, eqb, length, get_or, take, drop, length-drop, drop_of_length-le, drop-cons, drop-drop, take_all, eq-eqb, ne_eqb, eqb-true}
+use Rattle.laws.proofs.Order.{below_or_not}
+use Rattle.text.specs.{width_to, holds, extend}
 
 -- ---- within the list
 
@@ -25,6 +31,35 @@ width_split end (b ∷ s) h = go (eqb b end) refl h (width_split end s)
         → b ∷ s ≡ take (cond t 0 (suc (width_to end s))) (b ∷ s) ++ end ∷ drop (suc (cond t 0 (suc (width_to end s)))) (b ∷ s)
     go true e h later = ap (λ (k : ℕ). k ∷ s) (eqb-true b end e)
     go false e h later = ap (λ (l : List ℕ). b ∷ l) (later (omega arith))
+
+-- ---- what the library finds
+
+-- the first place of the byte, or the end
+width_first : (end : ℕ) (s : List ℕ) → width_to end s ≡ position_or_len (λ b. eqb b end) s
+unfolding width_to
+width_first end s = is_position_or_len (width_to end) (λ b. eqb b end) refl (λ b bs. rw one-add refl) s
+
+pub width_found : (end : ℕ) (s : List ℕ) (place : Option ℕ)
+    → place ≡ cond (ltb (position_or_len (λ b. eqb b end) s) (length s)) (Some (position_or_len (λ b. eqb b end) s)) None
+    → unwrap_or place (length s) ≡ width_to end s
+width_found end s place e = rw (e, ← width_first end s) (go (ltb (width_to end s) (length s)) refl)
+  where
+    go : (t : Bool) → ltb (width_to end s) (length s) ≡ t → unwrap_or (cond t (Some (width_to end s)) None) (length s) ≡ width_to end s
+    go true h = refl
+    go false h = omega (arith, width_le end s, ltb-false _ _ h)
+
+-- whether it stands among the bytes
+ltb_next : (m n : ℕ) → ltb m n ≡ ltb (suc m) (suc n)
+ltb_next m n = ⊎_elim (λ l. simp (lt-ltb m n l, lt-ltb (suc m) (suc n) (omega arith))) (λ l. simp (le-ltb m n l, le-ltb (suc m) (suc n) (omega arith))) (below_or_not m n)
+
+pub holds_any : (b : ℕ) (s : List ℕ) → list_any (λ c. eqb c b) s ≡ holds b s
+unfolding holds width_to
+holds_any b [] = refl
+holds_any b (c ∷ s) = go (eqb c b) (holds_any b s)
+  where
+    go : (t : Bool) → list_any (λ c. eqb c b) s ≡ ltb (width_to b s) (length s) → t || list_any (λ c. eqb c b) s ≡ ltb (cond t 0 (suc (width_to b s))) (suc (length s))
+    go true h = sym (lt-ltb 0 (suc (length s)) (omega arith))
+    go false h = h ∙ ltb_next (width_to b s) (length s)
 
 -- ---- at an index
 

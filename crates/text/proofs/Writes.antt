@@ -1,9 +1,14 @@
 -- Writes: two of them, the second where the first ends, are one. A write that fits leaves the bytes, and all else as it was.
-use Rattle.laws.proofs.{ℕ, ◌+◌, ◌≤◌, min, ◌≡◌, refl, sym, ap, subst, ◌∙◌, List, [], ◌++◌, append_assoc, ⊎_elim, arith, length, take, drop, length-append, sets}
+use Rattle.laws.proofs.{ℕ, ◌+◌, ◌-◌, ◌≤◌, take_all, min, ◌≡◌, refl, sym, ap, subst, ◌∙◌, List, [], ◌++◌, append_assoc, ⊎_elim, arith, length, take, drop, length-append, sets}
 use lib.Seq.{length-sets, sets-eq}
 use Rattle.laws.proofs.Order.{below_or_not}
-use Rattle.laws.proofs.Stores.{sets-append, sets-out}
+use Rattle.laws.proofs.Stores.{sets-append, sets-out, sets_cut}
 use Rattle.text.specs.{Wrote, greatest}
+
+-- what has no room is not stored
+pub room_stored : (l : List ℕ) (at n : ℕ) (xs : List ℕ) → at ≤ length l → n ≡ min (length xs) (length l - at) → sets l at (take n xs) ≡ sets l at xs
+room_stored l at n xs h e =
+    ⊎_elim (λ short. sets_cut l at n xs (omega arith) (omega arith)) (λ fits. ap (sets l at) (take_all n xs (omega arith))) (below_or_not (length l - at) (length xs))
 
 -- past the greatest place there is nothing to store to
 then_bytes : (l : List ℕ) (at p : ℕ) (xs ys : List ℕ) → length l ≤ greatest → p ≡ min (at + length xs) greatest → sets (sets l at xs) p ys ≡ sets l at (xs ++ ys)

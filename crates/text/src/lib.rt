@@ -6,26 +6,20 @@ ghost use Rattle.std.specs.Prelude.{◌≡◌, ◌∷◌, [], ◌+◌, ◌/◌, 
 ghost use Rattle.std.proofs.lemmas.List.Edits.{sets};
 ghost use Rattle.text.specs.{width_to, holds, digits, greatest, Wrote};
 
-const GREATEST: usize = 18446744073709551615;
-
 // The place of the first byte `byte` from a start on, or the end of the bytes; a start past their end is the answer itself.
 pub fn end_of(bytes: &[u8], start: usize, byte: u8) -> usize
     ensures { result ≡ start + width_to byte (drop start bytes.now) }
 {
-    let mut end = start;
-    while end < bytes.len() {
-        if bytes[end] == byte {
-            return end;
-        }
-        end += 1;
-    }
-    end
+    let Some(rest) = bytes.get(start..) else {
+        return start;
+    };
+    start + rest.iter().position(|b| *b == byte).unwrap_or(rest.len())
 }
 
 pub fn holds(bytes: &[u8], byte: u8) -> bool
     ensures { result ≡ holds byte bytes.now }
 {
-    end_of(bytes, 0, byte) < bytes.len()
+    bytes.contains(&byte)
 }
 
 // Puts a byte at a place; the answer, here and below, is the place after what was put.
@@ -34,48 +28,19 @@ pub fn put_byte(out: &mut [u8], at: usize, byte: u8) -> usize
 {
     if at < out.len() {
         out[at] = byte;
-        return at + 1;
     }
-    if at < GREATEST {
-        return at + 1;
-    }
-    GREATEST
+    at.saturating_add(1)
 }
 
-// Stores bytes that have room.
-fn store(out: &mut [u8], at: usize, bytes: &[u8])
-    requires { at + length bytes.now ≤ length out.old }
-    ensures { out.new ≡ sets out.old at bytes.now }
-{
-    let mut i = 0;
-    while i < bytes.len() {
-        out[at + i] = bytes[i];
-        i += 1;
-    }
-}
-
-fn place_after(at: usize, count: usize) -> usize
-    ensures { result ≡ min (at + count) greatest }
-{
-    if GREATEST - at < count {
-        return GREATEST;
-    }
-    at + count
-}
-
+// Puts bytes, as many as have room.
 pub fn put_bytes(out: &mut [u8], at: usize, bytes: &[u8]) -> usize
     ensures { Wrote out.old at bytes.now out.new result }
 {
-    if out.len() <= at {
-        return place_after(at, bytes.len());
+    if at < out.len() {
+        let many = bytes.len().min(out.len() - at);
+        out[at..at + many].copy_from_slice(&bytes[..many]);
     }
-    let room = out.len() - at;
-    if room < bytes.len() {
-        store(out, at, &bytes[0..room]);
-        return place_after(at, bytes.len());
-    }
-    store(out, at, bytes);
-    at + bytes.len()
+    at.saturating_add(bytes.len())
 }
 
 // Puts the two digits of a number below a hundred, which may have a zero in front.

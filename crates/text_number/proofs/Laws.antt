@@ -1,15 +1,16 @@
 -- Numbers, byte by byte: what a byte more makes of a number, and what the first bytes say of the rest.
+use Rattle.std.specs.Prelude.{Ok, Err}
 use Rattle.laws.proofs.{ℕ, ◌+◌, ◌-◌, ◌≤◌, ◌<◌, ◌≡◌, refl, sym, ap, ◌∙◌, List, [], ◌∷◌, arith, add-one, le-leb, lt-leb, eq-eqb, ne_eqb, length, get_or, drop, drop_of_length-le, drop-cons}
-use Rattle.text_number.specs.{Number, append_digit, append, more, headed, number_in}
+use Rattle.text_number.specs.{Number, Unread, append_digit, append, more, headed, number_in}
 
 -- ---- one byte
 
 module _ (n : Number) (b : ℕ) where
-  pub append_low : b < 48 → Number.Malformed ≡ append n b
+  pub append_low : b < 48 → Err Unread.Malformed ≡ append n b
   unfolding append
   append_low h = simp (lt-leb 48 b h)
 
-  pub append_high : 57 < b → Number.Malformed ≡ append n b
+  pub append_high : 57 < b → Err Unread.Malformed ≡ append n b
   unfolding append
   append_high h = simp (le-leb 48 b (omega arith), lt-leb b 57 h)
 
@@ -32,24 +33,24 @@ module _ (n : Number) (s : List ℕ) (i : ℕ) where
 
 -- ---- a number, by how many bytes there are
 
-pub none_read : (s : List ℕ) → length s ≡ 0 → Number.Malformed ≡ number_in s
+pub none_read : (s : List ℕ) → length s ≡ 0 → Err Unread.Malformed ≡ number_in s
 unfolding number_in headed
 none_read [] h = refl
 none_read (b ∷ s) h = absurd (omega arith)
 
-pub one_read : (s : List ℕ) → length s ≡ 1 → more (Number.Value 0) s ≡ number_in s
+pub one_read : (s : List ℕ) → length s ≡ 1 → more (Ok 0) s ≡ number_in s
 unfolding number_in headed
 one_read [] h = absurd (omega arith)
 one_read (b ∷ []) h = refl
 one_read (b ∷ d ∷ s) h = absurd (omega arith)
 
-pub zero_in_front : (s : List ℕ) → 1 < length s → get_or s 0 0 ≡ 48 → Number.Malformed ≡ number_in s
+pub zero_in_front : (s : List ℕ) → 1 < length s → get_or s 0 0 ≡ 48 → Err Unread.Malformed ≡ number_in s
 unfolding number_in headed
 zero_in_front [] h z = absurd (omega arith)
 zero_in_front (b ∷ []) h z = absurd (omega arith)
 zero_in_front (b ∷ d ∷ s) h z = simp (eq-eqb b 48 z)
 
-pub several_read : (s : List ℕ) → 1 < length s → (get_or s 0 0 ≡ 48 → ⊥) → more (Number.Value 0) s ≡ number_in s
+pub several_read : (s : List ℕ) → 1 < length s → (get_or s 0 0 ≡ 48 → ⊥) → more (Ok 0) s ≡ number_in s
 unfolding number_in headed
 several_read [] h z = absurd (omega arith)
 several_read (b ∷ []) h z = absurd (omega arith)

@@ -1,4 +1,4 @@
 pub mod Numbers
-pub use declared.Number.{Number}
-pub use Numbers.{room, append_digit}
+pub use declared.Unread.{Unread}
+pub use Numbers.{Number, room, append_digit}
 unfoldable pub use Numbers.{append, more, headed, number_in}

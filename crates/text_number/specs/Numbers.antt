@@ -1,7 +1,11 @@
 -- "numbers are decimal without leading zeros": at least one digit, and no limit to how many.
-use Rattle.std.specs.Prelude.{◌+◌, ◌*◌, ◌-◌, ◌&&◌, ◌∷◌}
+use Rattle.std.specs.Prelude.{◌+◌, ◌*◌, ◌-◌, ◌&&◌, ◌∷◌, Ok, Err, Result}
 use Rattle.laws.specs.{code, ℕ, Bool, true, false, cond, not, List, [], ltb, leb, eqb}
-use Rattle.text_number.specs.declared.Number.{Number}
+use Rattle.text_number.specs.declared.Unread.{Unread}
+
+-- what bytes stand for: a number, or why there is none
+abbrev pub Number : Type 0
+Number = Result ℕ Unread
 
 -- what is below has room for one digit more
 abbrev pub room : ℕ
@@ -9,13 +13,12 @@ room = 100000000000000
 
 -- a number with one digit more; above fifteen digits they are all one, since no range goes so far
 abbrev pub append_digit : Number → ℕ → Number
-append_digit (Number.Value v) d = cond (ltb v room) (Number.Value (v * 10 + d)) Number.Large
-append_digit Number.Large d = Number.Large
-append_digit Number.Malformed d = Number.Malformed
+append_digit (Ok v) d = cond (ltb v room) (Ok (v * 10 + d)) (Err Unread.Large)
+append_digit (Err unread) d = Err unread
 
 -- a number with one byte more
 unfoldable pub append : Number → ℕ → Number
-append n b = cond (leb (code "0") b && leb b (code "9")) (append_digit n (b - code "0")) Number.Malformed
+append n b = cond (leb (code "0") b && leb b (code "9")) (append_digit n (b - code "0")) (Err Unread.Malformed)
 
 unfoldable pub more : Number → List ℕ → Number
 more n [] = n
@@ -28,4 +31,4 @@ headed (b ∷ []) = true
 headed (b ∷ c ∷ bs) = not (eqb b (code "0"))
 
 unfoldable pub number_in : List ℕ → Number
-number_in s = cond (headed s) (more (Number.Value 0) s) Number.Malformed
+number_in s = cond (headed s) (more (Ok 0) s) (Err Unread.Malformed)

@@ -5,9 +5,11 @@ ghost use Rattle.std.specs.Prelude.{◌≡◌};
 ghost use Rattle.text_number.specs.{append, more, number_in};
 
 // What bytes stand for; a number of more than fifteen digits has no value here.
-#[derive(Clone, Copy)]
-pub enum Number {
-    Value(u64),
+pub type Number = Result<u64, Unread>;
+
+// Why there is none: more than fifteen digits, or no whole number.
+#[derive(Clone, Copy, PartialEq, Eq)]
+pub enum Unread {
     Large,
     Malformed,
 }
@@ -21,21 +23,16 @@ pub fn append(number: Number, byte: u8) -> Number
     ensures { result ≡ append number byte }
 {
     if byte < b'0' {
-        return Number::Malformed;
+        return Err(Unread::Malformed);
     }
     if b'9' < byte {
-        return Number::Malformed;
+        return Err(Unread::Malformed);
     }
-    match number {
-        Number::Value(v) => {
-            if v < ROOM {
-                return Number::Value(v * 10 + (byte - b'0') as u64);
-            }
-            Number::Large
-        }
-        Number::Large => Number::Large,
-        Number::Malformed => Number::Malformed,
+    let value = number?;
+    if value < ROOM {
+        return Ok(value * 10 + (byte - b'0') as u64);
     }
+    Err(Unread::Large)
 }
 
 // A number with more bytes behind its digits.
@@ -43,10 +40,8 @@ pub fn more(number: Number, bytes: &[u8]) -> Number
     ensures { result ≡ more number bytes.now }
 {
     let mut n = number;
-    let mut i = 0;
-    while i < bytes.len() {
-        n = append(n, bytes[i]);
-        i += 1;
+    for byte in bytes {
+        n = append(n, *byte);
     }
     n
 }
@@ -55,13 +50,13 @@ pub fn read(bytes: &[u8]) -> Number
     ensures { result ≡ number_in bytes.now }
 {
     if bytes.len() == 0 {
-        return Number::Malformed;
+        return Err(Unread::Malformed);
     }
     if bytes.len() == 1 {
-        return more(Number::Value(0), bytes);
+        return more(Ok(0), bytes);
     }
     if bytes[0] == b'0' {
-        return Number::Malformed;
+        return Err(Unread::Malformed);
     }
-    more(Number::Value(0), bytes)
+    more(Ok(0), bytes)
 }

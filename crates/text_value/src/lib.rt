@@ -4,16 +4,12 @@
 ghost use Rattle.std.specs.Prelude.{◌≡◌};
 ghost use Rattle.text_value.specs.{malformed, outside, value_of, fitted};
 
-use text_number::Number;
+use text_number::{Number, Unread};
 
 pub fn is_malformed(number: Number) -> bool
     ensures { result ≡ malformed number }
 {
-    match number {
-        Number::Value(_) => false,
-        Number::Large => false,
-        Number::Malformed => true,
-    }
+    number == Err(Unread::Malformed)
 }
 
 // It is not one of low to high.
@@ -21,38 +17,21 @@ pub fn is_outside(number: Number, low: u64, high: u64) -> bool
     ensures { result ≡ outside low high number }
 {
     match number {
-        Number::Value(v) => (v < low) | (high < v),
-        Number::Large => true,
-        Number::Malformed => true,
+        Ok(v) => (v < low) | (high < v),
+        Err(_) => true,
     }
 }
 
-// The value, 0 where there is none.
-fn value(number: Number) -> u64
-    ensures { result ≡ value_of number }
-{
-    match number {
-        Number::Value(v) => v,
-        Number::Large => 0,
-        Number::Malformed => 0,
-    }
-}
-
-// The value in fewer bits, 0 where it does not fit.
+// The value in fewer bits, 0 where there is none or it does not fit. Two functions: one for every integer type would promise the range
+// of the type and not `fitted`, by which the callers' definitions say it.
 pub fn value_u32(number: Number) -> u32
     ensures { result ≡ fitted 4294967295 number }
 {
-    if is_outside(number, 0, 4294967295) {
-        return 0;
-    }
-    value(number) as u32
+    u32::try_from(number.unwrap_or(0)).unwrap_or(0)
 }
 
 pub fn value_u16(number: Number) -> u16
     ensures { result ≡ fitted 65535 number }
 {
-    if is_outside(number, 0, 65535) {
-        return 0;
-    }
-    value(number) as u16
+    u16::try_from(number.unwrap_or(0)).unwrap_or(0)
 }

@@ -1,12 +1,13 @@
 -- Demand 3, for every list of entries: an empty holding and an empty ledger agree under every number, each entry keeps the agreement and tells
 -- the ledger's change, and so the whole list does. What agrees is accounted as the demand says.
+use Rattle.std.specs.Prelude.{Some, None, Option as Found}
 use Rattle.laws.proofs.{ℕ, ◌+◌, Bool, true, false, cond, ◌&&◌, ◌≡◌, refl, sym, ap, ◌∙◌, List, [], ◌∷◌, ◌++◌, append-nil, append_assoc, arith, length, length-append}
 use mathlib.Core.Option.{Option, none, some}
 use lib.IntN.{ℤ, pos, ◌-ℤ◌}
 use Rattle.laws.specs.{keep}
 use Rattle.laws.proofs.Signed.{ℤ-same, diff_read}
 use Rattle.line_entry.specs.{AreaAct}
-use Rattle.holding.specs.{Area, Holding, Found, areas_of, empty_area, empty_holding, find_area}
+use Rattle.holding.specs.{Area, Holding, areas_of, empty_area, empty_holding, find_area}
 use Rattle.holding_look.specs.{known, area_at}
 use Rattle.step_outcome.specs.{placed}
 use Rattle.step.specs.{stepped, holding_from, outcomes_from}
@@ -103,20 +104,20 @@ module _ (own : List ℕ) (n : ℕ) (steps : List (AreaAct × Bool)) (area : Are
 
 -- what stands under a number, by the engine's own search
 module _ (n : ℕ) (holding : Holding) where
-  stands_nowhere : (found : Found) → find_area holding n ≡ found → under area_number n (areas_of holding) ≡ none → find_area holding n ≡ Found.Nowhere
+  stands_nowhere : (found : Found ℕ) → find_area holding n ≡ found → under area_number n (areas_of holding) ≡ none → find_area holding n ≡ None
   unfolding find_area
-  stands_nowhere Found.Nowhere e u = e
-  stands_nowhere (Found.At i) e u =
+  stands_nowhere None e u = e
+  stands_nowhere (Some i) e u =
       let s = sym u ∙ standing_here area_number n holding.areas holding.count i empty_area e in
       let z : ◌≡◌ {A = ℕ} 0 1 = cc in absurd (omega arith)
 
-  stands_at : (area : Area) (found : Found) → find_area holding n ≡ found → under area_number n (areas_of holding) ≡ some area
+  stands_at : (area : Area) (found : Found ℕ) → find_area holding n ≡ found → under area_number n (areas_of holding) ≡ some area
       → (known found ≡ true) × (area_at holding found ≡ area)
   unfolding find_area area_at
-  stands_at area Found.Nowhere e u =
+  stands_at area None e u =
       let s = sym u ∙ standing_none area_number n holding.areas holding.count e in
       let z : ◌≡◌ {A = ℕ} 0 1 = cc in absurd (omega arith)
-  stands_at area (Found.At i) e u = (refl, let s = sym u ∙ standing_here area_number n holding.areas holding.count i empty_area e in cc)
+  stands_at area (Some i) e u = (refl, let s = sym u ∙ standing_here area_number n holding.areas holding.count i empty_area e in cc)
 
 -- for every table, every list of entries and every area's number
 pub accounts_agree : (own : List ℕ) (es : List AreaAct) (n : ℕ) → AccountsAgree own es n

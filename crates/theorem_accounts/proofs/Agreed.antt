@@ -1,9 +1,10 @@
 -- The engine and the ledger agree under a number: neither has anything under it and nothing was reported, or an area and a row that are alike.
 -- A refused step leaves this as it is, and so do an area opened and an area changed on both sides.
+use Rattle.std.specs.Prelude.{Some}
 use Rattle.laws.proofs.{ℕ, ◌+◌, ◌<◌, Bool, true, false, cond, ◌≡◌, refl, sym, ap, ◌∙◌, List, [], ◌∷◌, ◌++◌, arith, add-one, eqb-true, eqb-false, eqb, length, take, get_or, set, length-set}
 use mathlib.Core.Option.{Option, none, some}
 use lib.Seq.{take-suc-set}
-use Rattle.holding.specs.{Area, Holding, most_areas, areas_of, empty_area, opened_area, find_area, Found}
+use Rattle.holding.specs.{Area, Holding, most_areas, areas_of, empty_area, opened_area, find_area}
 use Rattle.theorem_ledger.specs.{change, Row, row_number, opened}
 use Rattle.theorem_accounts.specs.{Reported, nothing_reported, under}
 use Rattle.theorem_accounts.proofs.Keyed.{under_bears, under_more, under_last, under-changed, under_other, standing_here, standing_changed}
@@ -58,7 +59,7 @@ module _ (n : ℕ) (holding : Holding) (rows : List Row) (reported : Reported) (
           (under_more area_number n (areas_of holding) (opened_area m year) area u) (under_more row_number n rows (opened m year) row v) refl k
 
   -- an area changed at the place where its number was found
-  module _ (i : ℕ) (found : find_area holding m ≡ Found.At i) (area : Area) (f : Row → Row) (after : Reported) where
+  module _ (i : ℕ) (found : find_area holding m ≡ Some i) (area : Area) (f : Row → Row) (after : Reported) where
     abbrev before : Area
     before = get_or holding.areas i empty_area
 

@@ -1,4 +1,5 @@
 -- What an area is to its row in the ledger and to what was reported for it, and that each step of the area keeps this.
+use Rattle.std.specs.Prelude.{Some, None, Option}
 use Rattle.laws.proofs.{ℕ, suc, ◌+◌, ◌-◌, ◌<◌, Bool, true, false, ◌≡◌, refl, sym, ap, ◌∙◌, List, [], ◌∷◌, ◌++◌, arith, add-one, length, take, get_or, set, length-append, length-set}
 use lib.IntN.{ℤ, pos, ◌+ℤ◌, ◌-ℤ◌}
 use lib.Seq.{take-suc-set}
@@ -7,7 +8,7 @@ use Rattle.units.specs.{Change, value, nearest_tonne}
 use Rattle.units.proofs.Rounding.{change-value}
 use Rattle.schedules.specs.{schedule6}
 use Rattle.stocks.specs.{sub_stock, area_stock}
-use Rattle.holding.specs.{Sub, Area, Found, most_subs, subs_of, opened_area, empty_sub, find_sub}
+use Rattle.holding.specs.{Sub, Area, most_subs, subs_of, opened_area, empty_sub, find_sub}
 use Rattle.holding_look.specs.{known, sub_at, balance_of, with_sub}
 use Rattle.step_add.specs.{added_area}
 use Rattle.step_file.specs.{received_of, due_of, filed_area}
@@ -114,11 +115,11 @@ module _ (own : List ℕ) (area : Area) (reported : Reported) (row : Row) (alike
       one_more k l e h = rw (add-one k) (take-suc-set l k sub (omega arith))
 
   -- C and P: the sub-area under a number is changed
-  pub sub_alike : (n year : ℕ) (f : Sub → Sub) (found : Found) → find_sub area n ≡ found → known found ≡ true
+  pub sub_alike : (n year : ℕ) (f : Sub → Sub) (found : Option ℕ) → find_sub area n ≡ found → known found ≡ true
       → Alike (with_sub area found (f (sub_at area found)) year) reported (with_subs (change sub_number n f) row)
   unfolding with_sub find_sub sub_at
-  sub_alike n year f Found.Nowhere e k = let z : ◌≡◌ {A = ℕ} 0 1 = cc in absurd (omega arith)
-  sub_alike n year f (Found.At i) e k = record {
+  sub_alike n year f None e k = let z : ◌≡◌ {A = ℕ} 0 1 = cc in absurd (omega arith)
+  sub_alike n year f (Some i) e k = record {
     shown = record {
       number = same.number;
       opening = same.opening;

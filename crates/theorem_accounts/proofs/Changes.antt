@@ -1,5 +1,6 @@
 -- A step reports for an area just the change that the ledger gives: one if it is an accepted return of the area, whose stock and sub-areas
 -- are the row's, and otherwise none.
+use Rattle.std.specs.Prelude.{Ok, Err, Some, None, Option as Found}
 use Rattle.laws.proofs.{ℕ, Bool, true, false, cond, ◌&&◌, ◌≡◌, refl, sym, ap, subst, ◌∙◌, List, [], ◌∷◌, ◌++◌, append-nil, arith, eqb-true, eqb, length}
 use mathlib.Core.Option.{Option, none, some}
 use lib.IntN.{ℤ}
@@ -9,7 +10,7 @@ use Rattle.units.specs.{value}
 use Rattle.schedules.specs.{schedule6}
 use Rattle.table.specs.{is_table}
 use Rattle.line_entry.specs.{Act, AreaAct}
-use Rattle.holding.specs.{Area, Holding, Found, areas_of, empty_area, find_area}
+use Rattle.holding.specs.{Area, Holding, areas_of, empty_area, find_area}
 use Rattle.holding_look.specs.{known, area_at, balance_of, looked_up}
 use Rattle.step_outcome.specs.{Report, Outcome, accepted, answered, turned_back, area_cases}
 use Rattle.step_open.specs.{opened}
@@ -48,11 +49,11 @@ module _ (own : List ℕ) (n : ℕ) (holding : Holding) (rows : List Row) (repor
   turned_tells refusal change is_return = (sym (append-nil reported.changes), refl)
 
   -- a step that is no return
-  quiet : (v : Verdict) (report : Report) (place : Found) (count : ℕ) (area : Area) → (reported_with n reported report).changes ≡ reported.changes
+  quiet : (v : Verdict) (report : Report) (place : Found ℕ) (count : ℕ) (area : Area) → (reported_with n reported report).changes ≡ reported.changes
       → Tells (answered v (accepted report place count area)) [] false
   unfolding answered
-  quiet (Verdict.Refused refusal) report place count area e = turned_tells refusal [] false
-  quiet Verdict.Accepted report place count area e = (e ∙ sym (append-nil reported.changes), refl)
+  quiet (Err refusal) report place count area e = turned_tells refusal [] false
+  quiet (Ok _) report place count area e = (e ∙ sym (append-nil reported.changes), refl)
 
   quietly : (reported_with n reported Report.Nothing).changes ≡ reported.changes
   unfolding reported_with
@@ -68,18 +69,18 @@ module _ (own : List ℕ) (n : ℕ) (holding : Holding) (rows : List Row) (repor
       go false = refl
 
   module _ (agreed : Agreed n holding rows reported) where
-    paired : (found : Found) → find_area holding n ≡ found → known found ≡ true → Paired n rows reported (area_at holding found)
+    paired : (found : Found ℕ) → find_area holding n ≡ found → known found ≡ true → Paired n rows reported (area_at holding found)
     unfolding find_area area_at
-    paired Found.Nowhere e k = let z : ◌≡◌ {A = ℕ} 0 1 = cc in absurd (omega arith)
-    paired (Found.At i) e k =
+    paired None e k = let z : ◌≡◌ {A = ℕ} 0 1 = cc in absurd (omega arith)
+    paired (Some i) e k =
         go (under area_number n (areas_of holding)) (standing_here area_number n holding.areas holding.count i empty_area e)
         (under row_number n rows) refl agreed.matched
       where
-        go : (o : Option Area) → o ≡ some (area_at holding (Found.At i)) → (q : Option Row) → under row_number n rows ≡ q → Matched o q reported
-            → Paired n rows reported (area_at holding (Found.At i))
+        go : (o : Option Area) → o ≡ some (area_at holding (Some i)) → (q : Option Row) → under row_number n rows ≡ q → Matched o q reported
+            → Paired n rows reported (area_at holding (Some i))
         go none e q u k = let z : ◌≡◌ {A = ℕ} 0 1 = cc in absurd (omega arith)
         go (some area) e none u k = absurd k
-        go (some area) e (some row) u k = record { row = row; listed = u; alike = rw (let s : area_at holding (Found.At i) ≡ area = cc in s) k }
+        go (some area) e (some row) u k = record { row = row; listed = u; alike = rw (let s : area_at holding (Some i) ≡ area = cc in s) k }
 
     filed_tells : (m last : ℕ) → Tells (filed own schedule6 (looked_up holding m) last) (cond (eqb m n) (change_by own last (under row_number n rows)) []) (eqb m n)
     unfolding filed return_of file_cases area_cases answered reported_with
@@ -88,7 +89,7 @@ module _ (own : List ℕ) (n : ℕ) (holding : Holding) (rows : List Row) (repor
         (same_number holding m (file_cases m last found area) (λ (k : ℕ). accepted (bearing k (return_of own schedule6 area last)) found holding.count next) stands)
         (go (smallest (file_cases m last found area)) refl)
       where
-        found : Found
+        found : Found ℕ
         found = find_area holding m
 
         area : Area
@@ -117,8 +118,8 @@ module _ (own : List ℕ) (n : ℕ) (holding : Holding) (rows : List Row) (repor
         go : (v : Verdict) → smallest (file_cases m last found area) ≡ v
             → Tells (answered v (accepted (bearing m (return_of own schedule6 area last)) found holding.count next))
             (cond (eqb m n) (change_by own last (under row_number n rows)) []) (eqb m n)
-        go (Verdict.Refused refusal) v = turned_tells refusal (cond (eqb m n) (change_by own last (under row_number n rows)) []) (eqb m n)
-        go Verdict.Accepted v = at (eqb m n) refl (stands (ruled_out (file_cases m last found area) v))
+        go (Err refusal) v = turned_tells refusal (cond (eqb m n) (change_by own last (under row_number n rows)) []) (eqb m n)
+        go (Ok _) v = at (eqb m n) refl (stands (ruled_out (file_cases m last found area) v))
 
     acted_tells : (area : ℕ) (act : Act)
         → Tells (acted own schedule6 (looked_up holding area) act) (change_for own n rows area act) (is_return act && eqb area n)

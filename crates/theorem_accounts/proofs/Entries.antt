@@ -1,5 +1,6 @@
 -- Each entry keeps the agreement under a number. A refused one changes nothing; an accepted one was refused by none of its cases, so that
 -- its area stands, and it changes area, row and reports alike.
+use Rattle.std.specs.Prelude.{Ok, Err, Some, None, Option}
 use Rattle.laws.proofs.{ℕ, ◌+◌, Bool, true, false, cond, not, ◌≡◌, refl, sym, subst, ◌∙◌, List, [], ◌∷◌, ◌++◌, arith, leb-false, eq-eqb, ne_eqb}
 use Rattle.refusals.specs.{Verdict, Case, smallest}
 use Rattle.refusals.proofs.Laws.{RuledOut, ruled_out}
@@ -7,7 +8,7 @@ use Rattle.forest.specs.{Forest}
 use Rattle.schedules.specs.{schedule6}
 use Rattle.table.specs.{is_table}
 use Rattle.line_entry.specs.{Act, AreaAct}
-use Rattle.holding.specs.{Sub, Area, Holding, Found, most_areas, most_subs, opened_area, find_area, find_sub}
+use Rattle.holding.specs.{Sub, Area, Holding, most_areas, most_subs, opened_area, find_area, find_sub}
 use Rattle.holding_look.specs.{known, area_at, with_sub, balance_of, looked_up}
 use Rattle.step_outcome.specs.{Report, Outcome, accepted, answered, turned_back, placed, area_cases}
 use Rattle.step_open.specs.{open_cases}
@@ -50,7 +51,7 @@ module _ (own : List ℕ) (n : ℕ) (holding : Holding) (rows : List Row) (repor
 
   -- an entry of an area that was looked up under its number
   module _ (m : ℕ) where
-    found : Found
+    found : Option ℕ
     found = find_area holding m
 
     area : Area
@@ -64,15 +65,15 @@ module _ (own : List ℕ) (n : ℕ) (holding : Holding) (rows : List Row) (repor
     unfolding answered placed found area area_at
     area_keeps cs next f report stands number row_numbered alike other = go (smallest cs) refl
       where
-        at : (p : Found) → find_area holding m ≡ p → RuledOut cs → known p ≡ true → next.number ≡ (area_at holding p).number
+        at : (p : Option ℕ) → find_area holding m ≡ p → RuledOut cs → known p ≡ true → next.number ≡ (area_at holding p).number
             → (m ≡ n → (row : Row) → Alike (area_at holding p) reported row → Alike next (reported_with n reported report) (f row))
             → Keeps (accepted report p holding.count next) (change row_number m f rows)
-        at Found.Nowhere e h k q alike = let z : ◌≡◌ {A = ℕ} 0 1 = cc in absurd (omega arith)
-        at (Found.At i) e h k q alike = changed_agreed n holding rows reported agreed m i e next f (reported_with n reported report) q row_numbered alike other
+        at None e h k q alike = let z : ◌≡◌ {A = ℕ} 0 1 = cc in absurd (omega arith)
+        at (Some i) e h k q alike = changed_agreed n holding rows reported agreed m i e next f (reported_with n reported report) q row_numbered alike other
 
         go : (v : Verdict) → smallest cs ≡ v → Keeps (answered v (accepted report (find_area holding m) holding.count next)) (change row_number m f rows)
-        go (Verdict.Refused refusal) v = turned_keeps refusal (change row_number m f rows)
-        go Verdict.Accepted v = let h = ruled_out cs v in at (find_area holding m) refl h (stands h) number (alike h)
+        go (Err refusal) v = turned_keeps refusal (change row_number m f rows)
+        go (Ok _) v = let h = ruled_out cs v in at (find_area holding m) refl h (stands h) number (alike h)
 
     added_keeps : (sub : Sub) → Keeps (Adding.added own schedule6 (looked_up holding m) sub) (change row_number m (Ledger.added own sub) rows)
     unfolding Adding.added added_area add_cases area_cases found area reported_with
@@ -137,9 +138,9 @@ module _ (own : List ℕ) (n : ℕ) (holding : Holding) (rows : List Row) (repor
     opened_keeps year = go (smallest (open_cases (looked_up holding m) year)) refl
       where
         go : (v : Verdict) → smallest (open_cases (looked_up holding m) year) ≡ v
-            → Keeps (answered v (accepted Report.Nothing (Found.At holding.count) (holding.count + 1) (opened_area m year))) (rows ++ (Ledger.opened m year ∷ []))
-        go (Verdict.Refused refusal) v = agreed
-        go Verdict.Accepted v =
+            → Keeps (answered v (accepted Report.Nothing (Some holding.count) (holding.count + 1) (opened_area m year))) (rows ++ (Ledger.opened m year ∷ []))
+        go (Err refusal) v = agreed
+        go (Ok _) v =
             let h = ruled_out (open_cases (looked_up holding m) year) v in
             opened_agreed n holding rows reported agreed m year (leb-false most_areas holding.count (h 4))
 

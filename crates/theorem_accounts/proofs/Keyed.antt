@@ -1,9 +1,10 @@
 -- What stands under a number, in a list that grows at its end or of which one element is changed; and the places of a search, by which
 -- an array's store is that change.
+use Rattle.std.specs.Prelude.{Some, None}
 use Rattle.laws.proofs.{ℕ, suc, ◌+◌, ◌<◌, Bool, true, false, cond, ◌≡◌, refl, sym, ap, ◌∙◌, List, [], ◌∷◌, ◌++◌, arith, eqb-true, eq-eqb, ne_eqb, eqb, length, take, get_or, set, length-take, get_or-take}
 use mathlib.Core.Option.{none, some}
 use lib.Seq.{take-set-lt}
-use Rattle.holding.specs.{place_from, Found}
+use Rattle.holding.specs.{place_from}
 use Rattle.theorem_ledger.specs.{change}
 use Rattle.theorem_accounts.specs.{under}
 
@@ -73,13 +74,13 @@ module _ {A : Type 0} (number_of : A → ℕ) (n : ℕ) where
     pub here : (d : A) → under number_of n l ≡ some (get_or l k d)
     pub stored : (d : A) (f : A → A) → set l k (f (get_or l k d)) ≡ change number_of n f l
 
-  spot : (j i : ℕ) (l : List A) → place_from number_of n j l ≡ Found.At i → Spot j i l
+  spot : (j i : ℕ) (l : List A) → place_from number_of n j l ≡ Some i → Spot j i l
   unfolding place_from under change
   spot j i [] e = let z : ◌≡◌ {A = ℕ} 0 1 = cc in absurd (omega arith)
   spot j i (a ∷ l) e = go (eqb (number_of a) n) refl e (spot (j + 1) i l)
     where
-      go : (t : Bool) → eqb (number_of a) n ≡ t → cond t (Found.At j) (place_from number_of n (j + 1) l) ≡ Found.At i
-          → (place_from number_of n (j + 1) l ≡ Found.At i → Spot (j + 1) i l) → Spot j i (a ∷ l)
+      go : (t : Bool) → eqb (number_of a) n ≡ t → cond t (Some j) (place_from number_of n (j + 1) l) ≡ Some i
+          → (place_from number_of n (j + 1) l ≡ Some i → Spot (j + 1) i l) → Spot j i (a ∷ l)
       go true t e rest =
           let q : i ≡ j = cc in
           record { k = 0; there = omega arith; inside = omega arith; here = λ d. rw t; stored = λ d f. rw t }
@@ -93,13 +94,13 @@ module _ {A : Type 0} (number_of : A → ℕ) (n : ℕ) where
             stored = λ d f. rw t (ap (λ (r : List A). a ∷ r) (s.stored d f));
           }
 
-  nowhere_none : (j : ℕ) (l : List A) → place_from number_of n j l ≡ Found.Nowhere → under number_of n l ≡ none
+  nowhere_none : (j : ℕ) (l : List A) → place_from number_of n j l ≡ None → under number_of n l ≡ none
   unfolding place_from under
   nowhere_none j [] e = refl
   nowhere_none j (a ∷ l) e = go (eqb (number_of a) n) e (nowhere_none (j + 1) l)
     where
-      go : (t : Bool) → cond t (Found.At j) (place_from number_of n (j + 1) l) ≡ Found.Nowhere
-          → (place_from number_of n (j + 1) l ≡ Found.Nowhere → under number_of n l ≡ none) → cond t (some a) (under number_of n l) ≡ none
+      go : (t : Bool) → cond t (Some j) (place_from number_of n (j + 1) l) ≡ None
+          → (place_from number_of n (j + 1) l ≡ None → under number_of n l ≡ none) → cond t (some a) (under number_of n l) ≡ none
       go true e rest = let z : ◌≡◌ {A = ℕ} 0 1 = cc in absurd (omega arith)
       go false e rest = rest e
 
@@ -108,7 +109,7 @@ module _ {A : Type 0} (number_of : A → ℕ) (n : ℕ) where
     within : (k : ℕ) → k < length (take count l) → k < count
     within k h = omega (arith, length-take count l)
 
-    pub standing_here : (i : ℕ) (d : A) → place_from number_of n 0 (take count l) ≡ Found.At i → under number_of n (take count l) ≡ some (get_or l i d)
+    pub standing_here : (i : ℕ) (d : A) → place_from number_of n 0 (take count l) ≡ Some i → under number_of n (take count l) ≡ some (get_or l i d)
     standing_here i d e = go (spot 0 i (take count l) e)
       where
         go : Spot 0 i (take count l) → under number_of n (take count l) ≡ some (get_or l i d)
@@ -116,7 +117,7 @@ module _ {A : Type 0} (number_of : A → ℕ) (n : ℕ) where
             let q : s.k ≡ i = omega (arith, s.there) in
             s.here d ∙ ap some (get_or-take count l s.k d (within s.k s.inside) ∙ ap (λ (j : ℕ). get_or l j d) q)
 
-    pub standing_changed : (i : ℕ) (d : A) (f : A → A) → place_from number_of n 0 (take count l) ≡ Found.At i
+    pub standing_changed : (i : ℕ) (d : A) (f : A → A) → place_from number_of n 0 (take count l) ≡ Some i
         → take count (set l i (f (get_or l i d))) ≡ change number_of n f (take count l)
     standing_changed i d f e = go (spot 0 i (take count l) e)
       where
@@ -129,5 +130,5 @@ module _ {A : Type 0} (number_of : A → ℕ) (n : ℕ) where
             ∙ ap (λ (a : A). set (take count l) s.k (f a)) (sym (get_or-take count l s.k d h))
             ∙ s.stored d f
 
-    pub standing_none : place_from number_of n 0 (take count l) ≡ Found.Nowhere → under number_of n (take count l) ≡ none
+    pub standing_none : place_from number_of n 0 (take count l) ≡ None → under number_of n (take count l) ≡ none
     standing_none e = nowhere_none 0 (take count l) e

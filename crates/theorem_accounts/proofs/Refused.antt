@@ -1,12 +1,13 @@
 -- "A refused step counts as not sent": it leaves the holding as it was, so the accepted entries alone come to the same holding and are
 -- answered the same.
+use Rattle.std.specs.Prelude.{Ok, Err, Option}
 use Rattle.laws.proofs.{ℕ, Bool, true, false, cond, ◌≡◌, refl, sym, ap, subst, ◌∙◌, List, [], ◌∷◌, map, arith}
 use Rattle.laws.specs.{keep}
 use Rattle.refusals.specs.{Verdict}
 use Rattle.schedules.specs.{schedule6}
 use Rattle.table.specs.{is_table}
 use Rattle.line_entry.specs.{Act, AreaAct}
-use Rattle.holding.specs.{Area, Holding, Found}
+use Rattle.holding.specs.{Area, Holding}
 use Rattle.holding_look.specs.{Looked}
 use Rattle.step_outcome.specs.{Report, Outcome, accepted, answered, placed}
 use Rattle.step_open.specs.{opened}
@@ -27,10 +28,10 @@ module _ (own : List ℕ) (holding : Holding) where
   Unplaced : Outcome → Type 0
   Unplaced outcome = taken outcome ≡ false → placed holding outcome ≡ holding
 
-  answered-refused : (v : Verdict) (report : Report) (place : Found) (count : ℕ) (area : Area) → Unplaced (answered v (accepted report place count area))
+  answered-refused : (v : Verdict) (report : Report) (place : Option ℕ) (count : ℕ) (area : Area) → Unplaced (answered v (accepted report place count area))
   unfolding Unplaced answered placed
-  answered-refused (Verdict.Refused refusal) report place count area e = refl
-  answered-refused Verdict.Accepted report place count area e = let z : ◌≡◌ {A = ℕ} 0 1 = cc in absurd (omega arith)
+  answered-refused (Err refusal) report place count area e = refl
+  answered-refused (Ok _) report place count area e = let z : ◌≡◌ {A = ℕ} 0 1 = cc in absurd (omega arith)
 
   acted-refused : (looked : Looked) (act : Act) → Unplaced (acted own schedule6 looked act)
   unfolding opened added cleared planted filed withdrawn

@@ -1,5 +1,6 @@
 -- Demand 3 for every row of the ledger: an accepted opening finds its number unused, so no two rows bear the same number, and each row is the
 -- one under its number.
+use Rattle.std.specs.Prelude.{Ok, Err, Some, None, Option as Found}
 use Rattle.laws.proofs.{ℕ, ◌+◌, Bool, true, false, ◌≡◌, refl, subst, ◌∙◌, List, [], ◌∷◌, arith}
 use mathlib.Core.List.{Memᴰ}
 use mathlib.Core.Option.{Option, none, some}
@@ -9,7 +10,7 @@ use Rattle.refusals.specs.{Verdict, smallest}
 use Rattle.refusals.proofs.Laws.{ruled_out}
 use Rattle.table.specs.{is_table}
 use Rattle.line_entry.specs.{Act, AreaAct, on}
-use Rattle.holding.specs.{Area, Holding, Found, areas_of, opened_area, empty_holding, find_area}
+use Rattle.holding.specs.{Area, Holding, areas_of, opened_area, empty_holding, find_area}
 use Rattle.holding_look.specs.{known, looked_up}
 use Rattle.step_outcome.specs.{Outcome, accepted, answered, placed, Report}
 use Rattle.step_open.specs.{open_cases}
@@ -26,22 +27,22 @@ use Rattle.theorem_accounts.proofs.Accounts.{agreed_at_first, accounts_agree}
 
 module _ (own : List ℕ) where
   -- an accepted opening finds no area of its number
-  unused : (holding : Holding) (m year : ℕ) → is_accepted (stepped own holding (on m (Act.Open year))).verdict ≡ true → find_area holding m ≡ Found.Nowhere
+  unused : (holding : Holding) (m year : ℕ) → is_accepted (stepped own holding (on m (Act.Open year))).verdict ≡ true → find_area holding m ≡ None
   unfolding applied Opening.opened answered open_cases
   unused holding m year = go (is_table own) refl
     where
-      nowhere : (found : Found) → known found ≡ false → found ≡ Found.Nowhere
-      nowhere (Found.At i) e = let z : ◌≡◌ {A = ℕ} 0 1 = cc in absurd (omega arith)
-      nowhere Found.Nowhere e = refl
+      nowhere : (found : Found ℕ) → known found ≡ false → found ≡ None
+      nowhere (Some i) e = let z : ◌≡◌ {A = ℕ} 0 1 = cc in absurd (omega arith)
+      nowhere None e = refl
 
       judged : (v : Verdict) → smallest (open_cases (looked_up holding m) year) ≡ v
-          → is_accepted (answered v (accepted Report.Nothing (Found.At holding.count) (holding.count + 1) (opened_area m year))).verdict ≡ true
-          → find_area holding m ≡ Found.Nowhere
-      judged (Verdict.Refused refusal) v e = let z : ◌≡◌ {A = ℕ} 0 1 = cc in absurd (omega arith)
-      judged Verdict.Accepted v e = nowhere (find_area holding m) (ruled_out (open_cases (looked_up holding m) year) v 3)
+          → is_accepted (answered v (accepted Report.Nothing (Some holding.count) (holding.count + 1) (opened_area m year))).verdict ≡ true
+          → find_area holding m ≡ None
+      judged (Err refusal) v e = let z : ◌≡◌ {A = ℕ} 0 1 = cc in absurd (omega arith)
+      judged (Ok _) v e = nowhere (find_area holding m) (ruled_out (open_cases (looked_up holding m) year) v 3)
 
       Unused : Outcome → Type 0
-      Unused outcome = is_accepted outcome.verdict ≡ true → find_area holding m ≡ Found.Nowhere
+      Unused outcome = is_accepted outcome.verdict ≡ true → find_area holding m ≡ None
 
       go : (t : Bool) → is_table own ≡ t → Unused (stepped own holding (on m (Act.Open year)))
       go true table = subst Unused (step_is own holding (on m (Act.Open year)) table) (judged (smallest (open_cases (looked_up holding m) year)) refl)
@@ -49,7 +50,7 @@ module _ (own : List ℕ) where
           step_turned own holding (on m (Act.Open year)) Unused table (λ refusal few e. let z : ◌≡◌ {A = ℕ} 0 1 = cc in absurd (omega arith))
 
   module _ (holding : Holding) (rows : List Row) (reported : ℕ → Reported) (agreed : (n : ℕ) → Agreed n holding rows (reported n)) where
-    unlisted : (m : ℕ) → find_area holding m ≡ Found.Nowhere → under row_number m rows ≡ none
+    unlisted : (m : ℕ) → find_area holding m ≡ None → under row_number m rows ≡ none
     unfolding find_area
     unlisted m e =
         go (under area_number m (areas_of holding)) (standing_none area_number m holding.areas holding.count e) (under row_number m rows) (agreed m).matched

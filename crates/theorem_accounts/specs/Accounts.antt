@@ -1,10 +1,10 @@
 -- Demand 3 for every list of entries: "Take every list of these steps from an empty holding, refused ones included: opening, sub-area,
 -- clearing, planting, return and withdrawal entries .. Each step gets the holding that the last one left .. and a single table set serves all."
-use Rattle.std.specs.Prelude.{◌*◌, ◌≤◌, ◌≡◌, ◌-ℤ◌, ◌*ℤ◌}
+use Rattle.std.specs.Prelude.{◌*◌, ◌≤◌, ◌≡◌, ◌-ℤ◌, ◌*ℤ◌, None}
 use Rattle.laws.specs.{ℕ, Bool, true, false, List, [], pos, nat_abs}
 use Rattle.std.proofs.Math.Option.{Option, none, some}
 use Rattle.line_entry.specs.{AreaAct}
-use Rattle.holding.specs.{Area, Holding, empty_holding, subs_of, find_area, Found}
+use Rattle.holding.specs.{Area, Holding, empty_holding, subs_of, find_area}
 use Rattle.holding_look.specs.{known, area_at}
 use Rattle.step_outcome.specs.{Outcome}
 use Rattle.step.specs.{holding_from, outcomes_from}
@@ -62,7 +62,7 @@ pub record Shown (area : Area) (reported : Reported) (row : Row) : Type 0 where
 
 -- what holds of an area's number, by the ledger's row under it: of a number that has none nothing was reported, and no area stands
 unfoldable pub Agrees : List ℕ → ℕ → Holding → List (AreaAct × Bool) → Reported → Option Row → Type 0
-Agrees own n holding steps reported none = (reported ≡ nothing_reported) × (find_area holding n ≡ Found.Nowhere)
+Agrees own n holding steps reported none = (reported ≡ nothing_reported) × (find_area holding n ≡ None)
 Agrees own n holding steps reported (some row) =
     Accounted own n steps reported row × (known (find_area holding n) ≡ true) × Shown (area_at holding (find_area holding n)) reported row
 

@@ -1,5 +1,5 @@
 -- What the plain ledger is fed, and the changes that it gives for an area.
-use Rattle.std.specs.Prelude.{◌&&◌, ◌∷◌, ◌++◌}
+use Rattle.std.specs.Prelude.{◌&&◌, ◌∷◌, ◌++◌, Ok, Err}
 use Rattle.laws.specs.{ℕ, Bool, true, false, cond, List, [], map, eqb, length, keep, ℤ}
 use Rattle.std.proofs.Math.Option.{Option, none, some}
 use Rattle.refusals.specs.{Verdict}
@@ -13,8 +13,8 @@ under number_of n [] = none
 under number_of n (a ∷ l) = cond (eqb (number_of a) n) (some a) (under number_of n l)
 
 abbrev pub is_accepted : Verdict → Bool
-is_accepted Verdict.Accepted = true
-is_accepted (Verdict.Refused refusal) = false
+is_accepted (Ok _) = true
+is_accepted (Err refusal) = false
 
 -- "is fed each step and whether it was accepted"
 unfoldable pub fed : List AreaAct → List Outcome → List (AreaAct × Bool)

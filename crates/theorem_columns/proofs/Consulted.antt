@@ -1,5 +1,6 @@
 -- A T line's column is the column that a look-up of its kind and type consults, and every other look-up consults the column that it did: the longer
 -- table has the line's cells under the column's number, and under every other number what the table had.
+use Rattle.std.specs.Prelude.{Ok}
 use Rattle.laws.proofs.{ℕ, ◌<◌, ◌≡◌, refl, sym, ap, ◌∙◌, Bool, true, false, List, [], ◌∷◌, arith, eqb, leb-false, eqb-false, eqb-true, ne_eqb, not-false, length, replicate}
 use Rattle.laws.specs.{each_at_most}
 use Rattle.laws.proofs.Lists.{ceiling_at}
@@ -30,7 +31,7 @@ record Extends (table : List ℕ) (column : ℕ) (cells : List ℕ) : Type 0 whe
   free : is_free table column ≡ true
   some : length cells ≡ 0 → ⊥
 
-extends : (table : List ℕ) (column : ℕ) (cells : List ℕ) (room : ℕ) → extensible table column cells room ≡ Verdict.Accepted → Extends table column cells
+extends : (table : List ℕ) (column : ℕ) (cells : List ℕ) (room : ℕ) → extensible table column cells room ≡ Ok tt → Extends table column cells
 unfolding extensible
 extends table column cells room e =
     let n = ruled_out _ e in
@@ -48,7 +49,7 @@ begun-consulted [] default kind forest =
     ∙ sym (defaults [] default kind forest (sym (past_length [] (own_number kind forest) (omega arith))))
 begun-consulted (n ∷ own) default kind forest = simp (ne_eqb (length (n ∷ own)) 0 (λ e. omega arith))
 
-module _ (own : List ℕ) (areas : ℕ) (line : List ℕ) (clear : growable own areas line ≡ Verdict.Accepted) (default : List ℕ) (kind : Kind) (forest : Forest) where
+module _ (own : List ℕ) (areas : ℕ) (line : List ℕ) (clear : growable own areas line ≡ Ok tt) (default : List ℕ) (kind : Kind) (forest : Forest) where
   grows : Extends (begun own) (line_column line) (line_cells line)
   grows = extends (begun own) (line_column line) (line_cells line) longest_table (grown_extensible own areas line clear).1
 
@@ -69,9 +70,9 @@ module _ (own : List ℕ) (areas : ℕ) (line : List ℕ) (clear : growable own 
       ∙ ap (listed 0) (new_cells (begun own) (line_column line) (line_cells line) g.columns g.inside g.free)
 
   -- the entry that the line is read as has the number by which its kind and type are looked up
-  pub own-entered : Names line kind forest → entry_of line ≡ Parsed.Taken (Entry.Column (own_number kind forest))
+  pub own-entered : Names line kind forest → entry_of line ≡ Ok (Entry.Column (own_number kind forest))
   unfolding line_column
-  own-entered named = column_entered line (grown_extensible own areas line clear).0 ∙ ap (λ (n : ℕ). Parsed.Taken (Entry.Column n)) (named-number named)
+  own-entered named = column_entered line (grown_extensible own areas line clear).0 ∙ ap (λ (n : ℕ). Ok (Entry.Column n)) (named-number named)
 
   -- every other look-up consults what it did
   pub others_consulted : (own_number kind forest ≡ line_column line → ⊥) → consulted (longer_by own line) default kind forest ≡ consulted own default kind forest

@@ -1,4 +1,5 @@
 -- Every T line that is accepted names a kind and a type: its letters are among theirs, or it would be refused under 1 or 3.
+use Rattle.std.specs.Prelude.{Ok}
 use Rattle.laws.proofs.{ℕ, suc, ◌≡◌, refl, sym, Bool, true, false, cond, List, [], ◌∷◌, ◌⊎◌, inl, inr, ⊎_elim, arith, eqb, eqb-true, ltb, ltb-true, lt-ltb, not-false, length, get_or}
 use Rattle.refusals.specs.{Verdict}
 use Rattle.forest.specs.{Forest, Region, letters_of}
@@ -24,7 +25,7 @@ none_held : (b : ℕ) → holds b [] ≡ true → ⊥
 unfolding holds width_to
 none_held b h = let l = ltb-true 0 0 h in omega arith
 
-module _ (line : List ℕ) (clear : as_column line ≡ Verdict.Accepted) where
+module _ (line : List ℕ) (clear : as_column line ≡ Ok tt) where
   kind_held : holds (kind_in (fields_of line)) kind_letters ≡ true
   unfolding column_rule
   kind_held = not-false _ (column_cases line clear 2)

@@ -1,9 +1,10 @@
 -- Demand 3, whole: a list of steps comes to what its entries alone come to, and those are accounted as the crate `accounts` shows. The area that
 -- stands under a number has its line in the statement, and what its row and the reports say of it stands in that line.
+use Rattle.std.specs.Prelude.{Some, None, Option as Found}
 use Rattle.laws.proofs.{ℕ, Bool, true, ◌≡◌, refl, sym, ap, ◌∙◌, List, ◌∷◌, ◌++◌, arith, length, get_or}
 use mathlib.Core.Option.{Option, none, some}
 use Rattle.line_entry.specs.{AreaAct}
-use Rattle.holding.specs.{Area, Holding, Found, most_subs, subs_of, empty_sub, empty_area, empty_holding, find_area}
+use Rattle.holding.specs.{Area, Holding, most_subs, subs_of, empty_sub, empty_area, empty_holding, find_area}
 use Rattle.holding_look.specs.{known, area_at}
 use Rattle.theorem_ledger.specs.{Row, row_number, ledger_of}
 use Rattle.theorem_keeping.specs.{Kept}
@@ -48,11 +49,11 @@ module _ (statement : List ℕ) (area : Area) (n : ℕ) (reported : Reported) (r
 
 -- what the statement of a kept holding shows for a number, by the ledger's row under it
 module _ (own : List ℕ) (n : ℕ) (holding : Holding) (kept : Kept holding) (steps : List (AreaAct × Bool)) (reported : Reported) (rows : List Row) where
-  found-shown : (row : Row) (found : Found) → find_area holding n ≡ found → known found ≡ true → Shown (area_at holding found) reported row → row.number ≡ n
+  found-shown : (row : Row) (found : Found ℕ) → find_area holding n ≡ found → known found ≡ true → Shown (area_at holding found) reported row → row.number ≡ n
       → LineShown (statement_of holding) n reported row
   unfolding find_area area_at
-  found-shown row Found.Nowhere e stands shown bears = let z : ◌≡◌ {A = ℕ} 0 1 = cc in absurd (omega arith)
-  found-shown row (Found.At i) e stands shown bears =
+  found-shown row None e stands shown bears = let z : ◌≡◌ {A = ℕ} 0 1 = cc in absurd (omega arith)
+  found-shown row (Some i) e stands shown bears =
       let area = get_or holding.areas i empty_area in
       let inside = found_inside area_number n i holding.count holding.areas e in
       let subs = (register_at (holding-fits holding kept) n i empty_area e).subs in

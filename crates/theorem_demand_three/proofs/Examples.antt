@@ -1,4 +1,5 @@
 -- The printed case of document 01, run with read-backs among its entries: what is reported, and the statement after it, as antt computes them.
+use Rattle.std.specs.Prelude.{Ok, Err}
 use Rattle.laws.proofs.{ℕ, ◌≡◌, refl, List, [], ◌∷◌, map, replicate}
 use lib.IntN.{pos, negsuc}
 use Rattle.laws.specs.{sum_of, each_at_most, all_of, some, every, distinct, sum_by}
@@ -74,8 +75,8 @@ pieces =
 pub record Printed : Type 0 where
   -- two read-backs have too little room, and the clearing of the sub 2, which is unknown, is refused
   pub verdicts : map (λ (o : Outcome). o.verdict) (outcomes_of table steps)
-      ≡ Verdict.Refused Refusal.OutputShort ∷ Verdict.Accepted ∷ Verdict.Accepted ∷ Verdict.Accepted ∷ Verdict.Accepted ∷ Verdict.Accepted ∷ Verdict.Refused Refusal.OutputShort ∷ Verdict.Accepted ∷ Verdict.Accepted
-      ∷ Verdict.Accepted ∷ Verdict.Refused Refusal.SubUnknown ∷ Verdict.Accepted ∷ Verdict.Accepted ∷ []
+      ≡ Err Refusal.OutputShort ∷ (Ok tt) ∷ (Ok tt) ∷ (Ok tt) ∷ (Ok tt) ∷ (Ok tt) ∷ Err Refusal.OutputShort ∷ (Ok tt) ∷ (Ok tt)
+      ∷ (Ok tt) ∷ Err Refusal.SubUnknown ∷ (Ok tt) ∷ (Ok tt) ∷ []
   pub reported : reported_for table steps 7 ≡ record { changes = pos 55 ∷ negsuc 14 ∷ pos 50 ∷ []; received = 105; surrendered = 105; balance = 0 }
   pub statement : statement_of (holding_after table steps) ≡ joined pieces
 

@@ -1,9 +1,10 @@
 -- A read-back of a holding that a statement carries leaves it as it was and reports nothing. Every list of steps reaches such holdings alone, so
 -- its entries alone come to the same holding, are answered the same and feed the ledger the same.
+use Rattle.std.specs.Prelude.{Ok, Err, None}
 use Rattle.laws.proofs.{ℕ, Bool, ◌≡◌, refl, sym, ap, subst, ◌∙◌, List, [], ◌∷◌, length, drop, take-append_seam}
 use Rattle.refusals.specs.{Verdict, written, buffer_after}
 use Rattle.line_entry.specs.{AreaAct}
-use Rattle.holding.specs.{Holding, empty_area, empty_holding, Found}
+use Rattle.holding.specs.{Holding, empty_area, empty_holding}
 use Rattle.step_outcome.specs.{Outcome, accepted, answered, placed, Report}
 use Rattle.step.specs.{stepped}
 use Rattle.step.specs.Steps as Entries
@@ -19,7 +20,7 @@ use Rattle.theorem_demand_three.specs.{Step, Result, read_after, read_result, re
 
 module _ (own : List ℕ) (holding : Holding) (out : List ℕ) where
   unchanged : Outcome
-  unchanged = accepted Report.Nothing Found.Nowhere holding.count empty_area
+  unchanged = accepted Report.Nothing None holding.count empty_area
 
   -- what a read-back gives: the write's verdict, no report, and the same holding
   back : Result
@@ -30,16 +31,16 @@ module _ (own : List ℕ) (holding : Holding) (out : List ℕ) where
   back_report = go (writable (statement_of holding) (length out))
     where
       go : (v : Verdict) → (answered v unchanged).report ≡ Report.Nothing
-      go Verdict.Accepted = refl
-      go (Verdict.Refused refusal) = refl
+      go (Ok _) = refl
+      go (Err refusal) = refl
 
   back_verdict : back.outcome.verdict ≡ writable (statement_of holding) (length out)
   unfolding back unchanged answered
   back_verdict = go (writable (statement_of holding) (length out))
     where
       go : (v : Verdict) → (answered v unchanged).verdict ≡ v
-      go Verdict.Accepted = refl
-      go (Verdict.Refused refusal) = refl
+      go (Ok _) = refl
+      go (Err refusal) = refl
 
   module _ (kept : Kept holding) where
     read_back_is : result_of own holding (Step.ReadBack out) ≡ back
@@ -53,8 +54,8 @@ module _ (own : List ℕ) (holding : Holding) (out : List ℕ) where
         result read = read_result holding read.verdict read.holding
 
         go : (v : Verdict) → result (read_after (written v s) (buffer_after v s out)) ≡ record { outcome = answered v unchanged; holding = holding }
-        go Verdict.Accepted = ap result (ap read_of (take-append_seam s (drop (length s) out)) ∙ written_reads holding kept)
-        go (Verdict.Refused refusal) = refl
+        go (Ok _) = ap result (ap read_of (take-append_seam s (drop (length s) out)) ∙ written_reads holding kept)
+        go (Err refusal) = refl
 
     pub read_back_verdict : (result_of own holding (Step.ReadBack out)).outcome.verdict ≡ writable (statement_of holding) (length out)
     read_back_verdict = ap (λ (r : Result). r.outcome.verdict) read_back_is ∙ back_verdict

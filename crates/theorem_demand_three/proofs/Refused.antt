@@ -1,4 +1,5 @@
 -- "A refused step counts as not sent": it leaves the holding as it was, an entry by the law of entries and a read-back by its definition.
+use Rattle.std.specs.Prelude.{Ok, Err}
 use Rattle.laws.proofs.{ℕ, false, ◌≡◌, refl, List, arith}
 use Rattle.refusals.specs.{Verdict}
 use Rattle.holding.specs.{Holding}
@@ -17,5 +18,5 @@ refused-leaves own holding (Step.ReadBack out) e = go read.verdict read.holding 
     read = read_after (write_answer holding out) (output_after holding out)
 
     go : (v : Verdict) (read : Holding) → is_accepted (read_result holding v read).outcome.verdict ≡ false → (read_result holding v read).holding ≡ holding
-    go Verdict.Accepted read e = let z : ◌≡◌ {A = ℕ} 0 1 = cc in absurd (omega arith)
-    go (Verdict.Refused refusal) read e = refl
+    go (Ok _) read e = let z : ◌≡◌ {A = ℕ} 0 1 = cc in absurd (omega arith)
+    go (Err refusal) read e = refl

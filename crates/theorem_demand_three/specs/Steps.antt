@@ -1,10 +1,10 @@
 -- The steps of demand 3: "Its steps are A, S, C, P, R and W entries and read-backs". `own` is the participant's table: "One participant's table,
 -- or none, is lent unchanged throughout."
-use Rattle.std.specs.Prelude.{◌∷◌}
+use Rattle.std.specs.Prelude.{◌∷◌, Ok, Err, None}
 use Rattle.laws.specs.{ℕ, Bool, List, [], length, take}
 use Rattle.refusals.specs.{Verdict, Written, written, buffer_after}
 use Rattle.line_entry.specs.{AreaAct}
-use Rattle.holding.specs.{Holding, empty_area, empty_holding, Found}
+use Rattle.holding.specs.{Holding, empty_area, empty_holding}
 use Rattle.step_outcome.specs.{Outcome, accepted, turned_back, placed, Report}
 use Rattle.step.specs.{stepped}
 use Rattle.statement_format.specs.{statement_of}
@@ -31,13 +31,13 @@ output_after holding out = buffer_after (writable (statement_of holding) (length
 
 -- "and, unless that is refused, those bytes are read at once, unchanged": what the reader makes of them, or the write's refusal
 abbrev pub read_after : Written → List ℕ → Read
-read_after (Written.Count n) output = read_of (take n output)
-read_after (Written.Refused refusal) output = read_if (Verdict.Refused refusal) empty_holding
+read_after (Ok n) output = read_of (take n output)
+read_after (Err refusal) output = read_if (Err refusal) empty_holding
 
 -- "as the next holding"; a read-back reports nothing, and "A refused step counts as not sent."
 abbrev pub read_result : Holding → Verdict → Holding → Result
-read_result before Verdict.Accepted read = record { outcome = accepted Report.Nothing Found.Nowhere read.count empty_area; holding = read }
-read_result before (Verdict.Refused refusal) read = record { outcome = turned_back refusal; holding = before }
+read_result before (Ok _) read = record { outcome = accepted Report.Nothing None read.count empty_area; holding = read }
+read_result before (Err refusal) read = record { outcome = turned_back refusal; holding = before }
 
 unfoldable pub result_of : List ℕ → Holding → Step → Result
 result_of own holding (Step.Enter on) = let outcome = stepped own holding on in record { outcome = outcome; holding = placed holding outcome }

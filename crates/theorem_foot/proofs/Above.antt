@@ -1,4 +1,5 @@
 -- What the lines of a book print is whole lines: what stands behind it begins a line of its own, so the sheet above the foot is read off a listing's lines.
+use Rattle.std.specs.Prelude.{Ok, Err}
 use Rattle.laws.proofs.{ℕ, ◌+◌, ◌≡◌, refl, sym, ap, ◌∙◌, List, [], ◌∷◌, ◌++◌, append_assoc}
 use Rattle.refusals.specs.{Verdict}
 use Rattle.step_outcome.specs.{Report, Outcome}
@@ -16,8 +17,8 @@ in_front_lem {report} {text} shows above below e =
 printed-in_front : (number : ℕ) (outcome : Outcome) (v : Verdict) (above below : List ℕ) → lines_of (above ++ below) ≡ lines_of above ++ lines_of below
     → lines_of ((printed_for number v outcome ++ above) ++ below) ≡ lines_of (printed_for number v outcome ++ above) ++ lines_of below
 unfolding printed_for
-printed-in_front number outcome Verdict.Accepted = in_front_lem (report_shows outcome.report)
-printed-in_front number outcome (Verdict.Refused r) = in_front_lem (refusal_shows number r)
+printed-in_front number outcome (Ok _) = in_front_lem (report_shows outcome.report)
+printed-in_front number outcome (Err r) = in_front_lem (refusal_shows number r)
 
 pub lines_above : (lines : List (List ℕ)) (run : Run) (below : List ℕ) → lines_of (printed_from run lines ++ below) ≡ lines_of (printed_from run lines) ++ lines_of below
 unfolding printed_from printed lines_of

@@ -1,6 +1,7 @@
 -- What the areas that stand come to, and what is shown of it. A line that leaves the holding, or opens an area without units, reports nothing and moves no
 -- total; one that moves an area moves the totals by what it reports. So by induction over the lines of a book: received and surrendered are what is shown,
 -- and each number's balance is the last one shown.
+use Rattle.std.specs.Prelude.{Ok, Err}
 use Rattle.laws.proofs.{ℕ, ◌+◌, Bool, true, false, cond, ◌≡◌, refl, sym, ap, subst, ◌∙◌, List, [], ◌∷◌, ◌++◌, arith, eqb, eqb-true, eq-eqb, get_or}
 use Rattle.laws.specs.{distinct, sum_by}
 use mathlib.Core.List.{foldl, foldl-append}
@@ -110,10 +111,10 @@ shows_then before between after above below p q = record {
 printed_shows : (number : ℕ) (holding : Holding) (read : Parsed) (outcome : Outcome) → Does holding read outcome → (v : Verdict) → outcome.verdict ≡ v
     → TextShows outcome.report (printed_for number v outcome)
 unfolding printed_for
-printed_shows number holding read outcome does Verdict.Accepted e = report_shows outcome.report
-printed_shows number holding read outcome (Does.Staying same quiet) (Verdict.Refused r) e = rw quiet (refusal_shows number r)
-printed_shows number holding read outcome (Does.Opening taken opens) (Verdict.Refused r) e = absurd (let z : ◌≡◌ {A = ℕ} 0 1 = cc in omega arith)
-printed_shows number holding read outcome (Does.Moving taken moves) (Verdict.Refused r) e = absurd (let z : ◌≡◌ {A = ℕ} 0 1 = cc in omega arith)
+printed_shows number holding read outcome does (Ok _) e = report_shows outcome.report
+printed_shows number holding read outcome (Does.Staying same quiet) (Err r) e = rw quiet (refusal_shows number r)
+printed_shows number holding read outcome (Does.Opening taken opens) (Err r) e = absurd (let z : ◌≡◌ {A = ℕ} 0 1 = cc in omega arith)
+printed_shows number holding read outcome (Does.Moving taken moves) (Err r) e = absurd (let z : ◌≡◌ {A = ℕ} 0 1 = cc in omega arith)
 
 told_shows : (before after : Holding) (report : Report) (text : List ℕ) → Told before after report → (shown : TextShows report text) → Shows before after shown.lines
 told_shows before after report text told shown = record {

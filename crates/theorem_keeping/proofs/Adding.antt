@@ -1,5 +1,6 @@
 -- Adding a sub-area gives the area one more, under a number that none of it bears, with trees planted by the opening and no residue; its stock is
 -- within what one more sub-area allows.
+use Rattle.std.specs.Prelude.{Ok, Option}
 use Rattle.laws.proofs.{ℕ, ◌+◌, ◌*◌, ◌≤◌, true, false, ◌&&◌, ◌≡◌, refl, List, arith, not-false, leb-false, ltb-false}
 use Rattle.laws.proofs.Lists.{and_right}
 use Rattle.laws.proofs.Elements.{clash}
@@ -9,7 +10,7 @@ use Rattle.forest.specs.{Forest}
 use Rattle.ranges.specs.{is_area, is_sub, is_land, is_planted}
 use Rattle.schedules.specs.{schedule6}
 use Rattle.table.specs.{is_table}
-use Rattle.holding.specs.{Sub, Area, Found, Holding, most_subs, no_residue, find_sub}
+use Rattle.holding.specs.{Sub, Area, Holding, most_subs, no_residue, find_sub}
 use Rattle.holding_look.specs.{known, looked_up}
 use Rattle.statement_carried.specs.{stock_for_sub}
 use Rattle.step_outcome.specs.{area_cases, placed}
@@ -45,7 +46,7 @@ module _ (own : List ℕ) (table : is_table own ≡ true) where
       }
 
   module _ (number sub : ℕ) (land : Tenths) (forest : Forest) (planted : ℕ) where
-    added-changes : (found : Found) (area : Area) → smallest (add_cases number (new_sub sub land forest planted) found area) ≡ Verdict.Accepted
+    added-changes : (found : Option ℕ) (area : Area) → smallest (add_cases number (new_sub sub land forest planted) found area) ≡ Ok tt
         → Changed found area (added_area own schedule6 area (new_sub sub land forest planted))
     unfolding add_cases area_cases added_area
     added-changes found area e =

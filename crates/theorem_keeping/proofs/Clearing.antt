@@ -1,9 +1,10 @@
 -- A clearing leaves bare land and a residue of its year. The trees were planted from 1900 on and the year is at most 2199, so they are at most 299 years old.
+use Rattle.std.specs.Prelude.{Ok, Option}
 use Rattle.laws.proofs.{ℕ, ◌≤◌, true, false, ◌≡◌, refl, sym, ◌∙◌, arith, not-false}
 use Rattle.laws.proofs.Elements.{clash}
 use Rattle.refusals.specs.{smallest, Verdict}
 use Rattle.ranges.specs.{is_bare, is_year}
-use Rattle.holding.specs.{Sub, Area, Found, Holding, find_sub}
+use Rattle.holding.specs.{Sub, Area, Holding, find_sub}
 use Rattle.holding_look.specs.{known, sub_at, with_sub, looked_up}
 use Rattle.step_outcome.specs.{area_cases, placed}
 use Rattle.step_clear.specs.{clear_cases, cleared_sub, cleared_area, cleared}
@@ -30,7 +31,7 @@ cleared_sub_lem opening latest year sub ranged begun trees k =
       };
     }
 
-cleared-changes : (number sub year : ℕ) (found : Found) (area : Area) → smallest (clear_cases number sub year found area) ≡ Verdict.Accepted
+cleared-changes : (number sub year : ℕ) (found : Option ℕ) (area : Area) → smallest (clear_cases number sub year found area) ≡ Ok tt
     → Changed found area (cleared_area area sub year)
 unfolding clear_cases area_cases cleared_area cleared_sub with_sub
 cleared-changes number sub year found area e =

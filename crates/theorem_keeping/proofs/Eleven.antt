@@ -1,4 +1,5 @@
 -- A holding that a statement carries never meets refusal 11: that applies only to an area found whose fields no statement carries.
+use Rattle.std.specs.Prelude.{Ok, Err}
 use Rattle.laws.proofs.{ℕ, Bool, true, false, not, ◌&&◌, ◌||◌, ◌≡◌, refl, sym, ap, subst, List, [], ◌∷◌, arith, eqb, eq-eqb}
 use Rattle.laws.specs.{every}
 use Rattle.refusals.specs.{Refusal, number_of, Case, weighed, weigh_all, smallest, Verdict}
@@ -33,7 +34,7 @@ spared n c = not (eqb (number_of c.refusal) n) || not c.applies
 unfoldable silent : ℕ → List Case → Bool
 silent n cs = every (spared n) cs
 
-never_given : (r : Refusal) (cs : List Case) → silent (number_of r) cs ≡ true → smallest cs ≡ Verdict.Refused r → ⊥
+never_given : (r : Refusal) (cs : List Case) → silent (number_of r) cs ≡ true → smallest cs ≡ Err r → ⊥
 unfolding silent every smallest weigh_all weighed
 never_given r [] s e = let z : ◌≡◌ {A = ℕ} 0 1 = cc in omega arith
 never_given r (c ∷ cs) s e = go c.applies refl e (never_given r cs (and_right first rest s))
@@ -44,7 +45,7 @@ never_given r (c ∷ cs) s e = go c.applies refl e (never_given r cs (and_right 
     rest : Bool
     rest = every (spared (number_of r)) cs
 
-    go : (t : Bool) → c.applies ≡ t → weigh_all (weighed Verdict.Accepted t c.refusal) cs ≡ Verdict.Refused r → (weigh_all Verdict.Accepted cs ≡ Verdict.Refused r → ⊥) → ⊥
+    go : (t : Bool) → c.applies ≡ t → weigh_all (weighed (Ok tt) t c.refusal) cs ≡ Err r → (weigh_all (Ok tt) cs ≡ Err r → ⊥) → ⊥
     go true a e later =
         let given : c.refusal ≡ r = cc (turned_stands c.refusal cs) in
         let same : eqb (number_of c.refusal) (number_of r) ≡ true = eq-eqb _ _ (ap number_of given) in
@@ -52,8 +53,8 @@ never_given r (c ∷ cs) s e = go c.applies refl e (never_given r cs (and_right 
         clash (sym (simp (same, a) at h))
     go false a e later = later e
 
-never_answered : (cs : List Case) (outcome : Outcome) → outcome.verdict ≡ Verdict.Accepted → silent (number_of Refusal.CarriedStatement) cs ≡ true
-    → (answered (smallest cs) outcome).verdict ≡ Verdict.Refused Refusal.CarriedStatement → ⊥
+never_answered : (cs : List Case) (outcome : Outcome) → outcome.verdict ≡ Ok tt → silent (number_of Refusal.CarriedStatement) cs ≡ true
+    → (answered (smallest cs) outcome).verdict ≡ Err Refusal.CarriedStatement → ⊥
 never_answered cs outcome c s e = never_given Refusal.CarriedStatement cs s (refusal-weighed outcome (smallest cs) Refusal.CarriedStatement c e)
 
 module _ (holding : Holding) (kept : AreasKept holding) where
@@ -67,7 +68,7 @@ module _ (holding : Holding) (kept : AreasKept holding) where
       go false e = refl
 
   acted_never : (own : List ℕ) (area : ℕ) (act : Act)
-      → (acted own schedule6 (looked_up holding area) act).verdict ≡ Verdict.Refused Refusal.CarriedStatement → ⊥
+      → (acted own schedule6 (looked_up holding area) act).verdict ≡ Err Refusal.CarriedStatement → ⊥
   unfolding opened open_cases added add_cases cleared clear_cases planted plant_cases filed file_cases withdrawn withdraw_cases area_cases silent every
   acted_never own area (Act.Open opening) e = never_answered _ _ refl (both _ true (found-carried area) refl) e
   acted_never own area (Act.Add sub land forest year) e = never_answered _ _ refl (both _ true (found-carried area) refl) e
@@ -76,12 +77,12 @@ module _ (holding : Holding) (kept : AreasKept holding) where
   acted_never own area (Act.File last) e = never_answered _ _ refl (both _ true (found-carried area) refl) e
   acted_never own area Act.Withdraw e = never_answered _ _ refl (both _ true (found-carried area) refl) e
 
-pub never_eleven : (own : List ℕ) (holding : Holding) (on : AreaAct) → Kept holding → (stepped own holding on).verdict ≡ Verdict.Refused Refusal.CarriedStatement → ⊥
+pub never_eleven : (own : List ℕ) (holding : Holding) (on : AreaAct) → Kept holding → (stepped own holding on).verdict ≡ Err Refusal.CarriedStatement → ⊥
 unfolding applied
 never_eleven own holding on kept = go (is_table own) refl
   where
     Never : Outcome → Type 0
-    Never outcome = outcome.verdict ≡ Verdict.Refused Refusal.CarriedStatement → ⊥
+    Never outcome = outcome.verdict ≡ Err Refusal.CarriedStatement → ⊥
 
     go : (t : Bool) → is_table own ≡ t → Never (stepped own holding on)
     go true table = subst Never (step_is own holding on table) (acted_never holding (kept-areas holding kept) own on.area on.act)

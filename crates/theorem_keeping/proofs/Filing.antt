@@ -1,5 +1,6 @@
 -- A return opens the year after its last one. The stock is the sub-areas' own; what is received is at most one return's limit more, and no more is due than
 -- the balance.
+use Rattle.std.specs.Prelude.{Ok, Option}
 use Rattle.laws.proofs.{ℕ, ◌+◌, ◌*◌, ◌≤◌, true, false, ◌≡◌, refl, sym, ◌∙◌, List, arith, not-false}
 use Rattle.laws.proofs.Elements.{clash}
 use Rattle.refusals.specs.{smallest, Verdict}
@@ -7,7 +8,7 @@ use Rattle.units.specs.{Change}
 use Rattle.ranges.specs.{is_year}
 use Rattle.schedules.specs.{schedule6}
 use Rattle.table.specs.{is_table}
-use Rattle.holding.specs.{Area, Found, Holding}
+use Rattle.holding.specs.{Area, Holding}
 use Rattle.holding_look.specs.{known, balance_of, looked_up}
 use Rattle.statement_carried.specs.{received_for_return}
 use Rattle.step_outcome.specs.{area_cases, placed}
@@ -58,7 +59,7 @@ module _ (own : List ℕ) (table : is_table own ≡ true) (area : Area) (k : Are
         subs = k.subs;
       }
 
-filed-changes : (own : List ℕ) → is_table own ≡ true → (number last : ℕ) (found : Found) (area : Area) → smallest (file_cases number last found area) ≡ Verdict.Accepted
+filed-changes : (own : List ℕ) → is_table own ≡ true → (number last : ℕ) (found : Option ℕ) (area : Area) → smallest (file_cases number last found area) ≡ Ok tt
     → Changed found area (filed_area own schedule6 area last)
 unfolding file_cases area_cases filed_area
 filed-changes own table number last found area e =

@@ -1,9 +1,10 @@
 -- An opening adds an area without sub-areas, under a number that no area bears.
+use Rattle.std.specs.Prelude.{Some}
 use Rattle.laws.proofs.{ℕ, true, ◌≡◌, refl, arith, not-false, leb-false}
 use Rattle.laws.specs.{distinct}
 use Rattle.refusals.specs.{smallest}
 use Rattle.ranges.specs.{is_area, is_year}
-use Rattle.holding.specs.{Holding, opened_area, find_area, Found}
+use Rattle.holding.specs.{Holding, opened_area, find_area}
 use Rattle.holding_look.specs.{looked_up}
 use Rattle.step_outcome.specs.{accepted, placed, Report}
 use Rattle.step_open.specs.{open_cases, opened}
@@ -35,7 +36,7 @@ opened_area_lem number opening n y = record {
 pub opened_keeps : (holding : Holding) (number opening : ℕ) → AreasKept holding → AreasKept (placed holding (opened (looked_up holding number) opening))
 unfolding opened placed open_cases find_area
 opened_keeps holding number opening kept =
-    answer_has holding (accepted Report.Nothing (Found.At holding.count) _ (opened_area number opening)) AreasKept (smallest (open_cases (looked_up holding number) opening)) kept (λ e.
+    answer_has holding (accepted Report.Nothing (Some holding.count) _ (opened_area number opening)) AreasKept (smallest (open_cases (looked_up holding number) opening)) kept (λ e.
     let out = ruled_out (open_cases (looked_up holding number) opening) e in
     register_more kept (opened_area number opening) (unknown (find_area holding number) (out 3)) (leb-false _ _ (out 4))
     (opened_area_lem number opening (not-false (is_area number) (out 0)) (not-false (is_year opening) (out 1))))

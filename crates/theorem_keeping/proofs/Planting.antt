@@ -1,9 +1,10 @@
 -- A planting gives bare land trees of its year, which becomes the latest year; the residue stays.
+use Rattle.std.specs.Prelude.{Ok, Option}
 use Rattle.laws.proofs.{ℕ, ◌≤◌, true, false, ◌≡◌, refl, arith, not-false}
 use Rattle.refusals.specs.{smallest, Verdict}
 use Rattle.forest.specs.{Forest}
 use Rattle.ranges.specs.{is_bare, is_year}
-use Rattle.holding.specs.{Sub, Area, Found, Holding, find_sub}
+use Rattle.holding.specs.{Sub, Area, Holding, find_sub}
 use Rattle.holding_look.specs.{known, sub_at, with_sub, looked_up}
 use Rattle.step_outcome.specs.{area_cases, placed}
 use Rattle.step_plant.specs.{plant_cases, planted_sub, planted_area, planted}
@@ -27,7 +28,7 @@ planted_sub_lem opening latest year forest sub ranged grows trees k =
       residue = residue_later opening latest year grows sub.residue k.residue;
     }
 
-planted-changes : (number sub : ℕ) (forest : Forest) (year : ℕ) (found : Found) (area : Area) → smallest (plant_cases number sub forest year found area) ≡ Verdict.Accepted
+planted-changes : (number sub : ℕ) (forest : Forest) (year : ℕ) (found : Option ℕ) (area : Area) → smallest (plant_cases number sub forest year found area) ≡ Ok tt
     → Changed found area (planted_area area sub forest year)
 unfolding plant_cases area_cases planted_area planted_sub with_sub
 planted-changes number sub forest year found area e =

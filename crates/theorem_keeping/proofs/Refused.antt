@@ -1,4 +1,5 @@
 -- A refused step leaves the holding as it was: every step is an answer, and a refusal places nothing.
+use Rattle.std.specs.Prelude.{Err}
 use Rattle.laws.proofs.{Bool, true, false, ◌≡◌, refl, ap, subst, ◌∙◌, List, ℕ}
 use Rattle.refusals.specs.{Refusal, Verdict}
 use Rattle.schedules.specs.{schedule6}
@@ -18,7 +19,7 @@ use Rattle.step.proofs.Entered.{step_is, step_turned}
 use Rattle.theorem_keeping.proofs.Answers.{refusal-leaves}
 
 module _ (own : List ℕ) (holding : Holding) where
-  acted-leaves : (looked : Looked) (act : Act) (r : Refusal) → (acted own schedule6 looked act).verdict ≡ Verdict.Refused r
+  acted-leaves : (looked : Looked) (act : Act) (r : Refusal) → (acted own schedule6 looked act).verdict ≡ Err r
       → placed holding (acted own schedule6 looked act) ≡ holding
   unfolding opened added cleared planted filed withdrawn
   acted-leaves looked (Act.Open opening) r e = refusal-leaves holding _ _ r refl e
@@ -29,7 +30,7 @@ module _ (own : List ℕ) (holding : Holding) where
   acted-leaves looked Act.Withdraw r e = refusal-leaves holding _ _ r refl e
 
   -- "A refusal returns its number only."
-  pub refused-leaves : (on : AreaAct) (r : Refusal) → (stepped own holding on).verdict ≡ Verdict.Refused r → placed holding (stepped own holding on) ≡ holding
+  pub refused-leaves : (on : AreaAct) (r : Refusal) → (stepped own holding on).verdict ≡ Err r → placed holding (stepped own holding on) ≡ holding
   unfolding applied placed
   refused-leaves on r e = go (is_table own) refl
     where

@@ -1,20 +1,21 @@
 -- A register: an array whose first places hold numbered things, the areas of a holding or the sub-areas of an area. What a search finds in it is good;
 -- it stays a register where a thing is put back under its number, and where one is added whose number a search did not find.
+use Rattle.std.specs.Prelude.{Some, None, Option}
 use Rattle.laws.proofs.{ℕ, zero, suc, ◌+◌, ◌-◌, ◌≤◌, ◌<◌, true, false, ◌≡◌, refl, sym, ap, ◌∙◌, List, [], ◌∷◌, ◌++◌, add-one, arith, length, get_or, set, take, drop, replicate, length-take, length-set, take-append-drop, drop-drop, get_or-take}
 use lib.Seq.{drop-set-lt, take-set-lt, take-suc-set, map-set_same}
 use Rattle.laws.proofs.Distinct.{distinct_more}
 use Rattle.laws.specs.{distinct}
 use Rattle.laws.proofs.Elements.{clash}
-use Rattle.holding.specs.{Found, place_from}
+use Rattle.holding.specs.{place_from}
 use Rattle.holding.proofs.Stands.{stands, stands_nowhere}
 use Rattle.holding_look.specs.{known}
 use Rattle.theorem_keeping.specs.{Tidy, Each}
 use Rattle.theorem_keeping.proofs.Lists.{each_at, each_set, each_more, each_so, distinct-same}
 
 -- what a search did not find stands nowhere
-pub unknown : (found : Found) → known found ≡ false → found ≡ Found.Nowhere
-unknown (Found.At i) e = clash e
-unknown Found.Nowhere e = refl
+pub unknown : (found : Option ℕ) → known found ≡ false → found ≡ None
+unknown (Some i) e = clash e
+unknown None e = refl
 
 module _ {A : Type 0} (empty : A) (places count : ℕ) (l : List A) (tidy : Tidy empty places count l) (a : A) where
   pub tidy_put : (i : ℕ) → i < count → Tidy empty places count (set l i a)
@@ -51,7 +52,7 @@ pub record Register {A : Type 0} (number_of : A → ℕ) (empty : A) (Good : A �
   pub each : Each Good (take count l)
   pub apart : distinct number_of (take count l) ≡ true
 
-module _ {A : Type 0} (number_of : A → ℕ) (n i count : ℕ) (l : List A) (e : place_from number_of n 0 (take count l) ≡ Found.At i) where
+module _ {A : Type 0} (number_of : A → ℕ) (n i count : ℕ) (l : List A) (e : place_from number_of n 0 (take count l) ≡ Some i) where
   pub found_inside : (i < count) × (i < length l)
   found_inside =
       let s = stands number_of n 0 i (take count l) e in
@@ -60,12 +61,12 @@ module _ {A : Type 0} (number_of : A → ℕ) (n i count : ℕ) (l : List A) (e 
       (omega (arith, length-take count l), omega (arith, length-take count l))
 
 module _ {A : Type 0} {number_of : A → ℕ} {empty : A} {Good : A → Type 0} {places count : ℕ} {l : List A} (register : Register number_of empty Good places count l) where
-  pub register_at : (n i : ℕ) (d : A) → place_from number_of n 0 (take count l) ≡ Found.At i → Good (get_or l i d)
+  pub register_at : (n i : ℕ) (d : A) → place_from number_of n 0 (take count l) ≡ Some i → Good (get_or l i d)
   register_at n i d e =
       let inside = found_inside number_of n i count l e in
       rw (← get_or-take count l i d inside.0) (each_at Good (take count l) i d (omega (arith, length-take count l)) register.each)
 
-  pub register_put : (n i : ℕ) (a d : A) → place_from number_of n 0 (take count l) ≡ Found.At i → number_of a ≡ number_of (get_or l i d) → Good a
+  pub register_put : (n i : ℕ) (a d : A) → place_from number_of n 0 (take count l) ≡ Some i → number_of a ≡ number_of (get_or l i d) → Good a
       → Register number_of empty Good places count (set l i a)
   register_put n i a d e same good =
       let inside = found_inside number_of n i count l e in
@@ -78,7 +79,7 @@ module _ {A : Type 0} {number_of : A → ℕ} {empty : A} {Good : A → Type 0} 
         apart = rw store (distinct-same number_of (take count l) _ (map-set_same number_of (take count l) i a d there) register.apart);
       }
 
-  pub register_more : (a : A) → place_from number_of (number_of a) 0 (take count l) ≡ Found.Nowhere → count < places → Good a
+  pub register_more : (a : A) → place_from number_of (number_of a) 0 (take count l) ≡ None → count < places → Good a
       → Register number_of empty Good places (count + 1) (set l count a)
   register_more a e free good =
       let long : length l ≡ places = register.tidy.long in

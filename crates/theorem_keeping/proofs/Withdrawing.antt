@@ -1,7 +1,8 @@
 -- A withdrawal surrenders what is left, so that all that was received is surrendered.
+use Rattle.std.specs.Prelude.{Ok, Option}
 use Rattle.laws.proofs.{ℕ, ◌≤◌, ◌≡◌, refl, arith, not-false}
 use Rattle.refusals.specs.{smallest, Verdict}
-use Rattle.holding.specs.{Area, Found, Holding}
+use Rattle.holding.specs.{Area, Holding}
 use Rattle.holding_look.specs.{known, looked_up}
 use Rattle.step_outcome.specs.{area_cases, placed}
 use Rattle.step_withdraw.specs.{withdraw_cases, withdrawn_area, withdrawn}
@@ -23,7 +24,7 @@ withdrawn_area_lem area k =
       subs = k.subs;
     }
 
-withdrawn-changes : (number : ℕ) (found : Found) (area : Area) → smallest (withdraw_cases number found area) ≡ Verdict.Accepted → Changed found area (withdrawn_area area)
+withdrawn-changes : (number : ℕ) (found : Option ℕ) (area : Area) → smallest (withdraw_cases number found area) ≡ Ok tt → Changed found area (withdrawn_area area)
 unfolding withdraw_cases area_cases withdrawn_area
 withdrawn-changes number found area e =
     let out = ruled_out (withdraw_cases number found area) e in

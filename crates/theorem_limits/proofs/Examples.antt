@@ -1,5 +1,6 @@
 -- A statement of one sub-area more than document 01's limit, and an area of one tonne more for its return: the limits in force accept both, and document
 -- 01's neither.
+use Rattle.std.specs.Prelude.{Ok, Err}
 use Rattle.laws.proofs.{ℕ, true, false, ◌≡◌, refl, List, [], ◌∷◌, length}
 use Rattle.laws.specs.{all_of, some, every, distinct}
 use Rattle.refusals.specs.{weighed, weigh_all, smallest, Refusal, Verdict}
@@ -29,8 +30,8 @@ abbrev one_tonne_more : Area
 one_tonne_more = with_units 1000000001 0 (with_returns 2011 1 (opened_area 7 2010))
 
 pub record Widened : Type 0 where
-  pub now : (read_of seventeen).verdict ≡ Verdict.Accepted
-  pub before : (read_within first_limits seventeen).verdict ≡ Verdict.Refused Refusal.CarriedStatement
+  pub now : (read_of seventeen).verdict ≡ Ok tt
+  pub before : (read_within first_limits seventeen).verdict ≡ Err Refusal.CarriedStatement
   pub tonne_now : amounts_carried one_tonne_more ≡ true
   pub tonne_before : amounts_within first_limits one_tonne_more ≡ false
 

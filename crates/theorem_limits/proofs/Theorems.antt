@@ -1,5 +1,6 @@
 -- The two claims of the request, for any narrower limits and for those of document 01. A holding laid out in other places has the same statement; so a
 -- statement that narrower limits accept is that of a holding which the limits in force carry, and is read as it.
+use Rattle.std.specs.Prelude.{Ok}
 use Rattle.laws.proofs.{ℕ, ◌≤◌, ◌≡◌, sym, ap, ◌∙◌, List, arith}
 use Rattle.refusals.specs.{Verdict}
 use Rattle.holding.specs.{Area, Holding, most_subs, areas_of}
@@ -33,7 +34,7 @@ written_as_before most holding kept few =
 
 -- "each old statement is still read": the statement of a holding that narrower limits carry, as that holding
 pub kept_still_read : (few : Limits) → Narrower few limits → (holding : Holding) → KeptWithin few holding
-    → read_of (statement_of holding) ≡ record { verdict = Verdict.Accepted; holding = holding_in_places most_subs holding }
+    → read_of (statement_of holding) ≡ record { verdict = (Ok tt); holding = holding_in_places most_subs holding }
 kept_still_read few narrower holding kept =
     accepts_that (statement_of holding) (holding_in_places most_subs holding) (kept_wider few limits narrower holding kept)
     (same-statement most_subs holding (each_placed few limits narrower holding kept))

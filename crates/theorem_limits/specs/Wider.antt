@@ -1,6 +1,6 @@
 -- Limits that are widened: "A holding with no area above 16 sub-areas is written just as before, and each old statement is still read." (document 02,
 -- item 4)
-use Rattle.std.specs.Prelude.{◌-◌, ◌≤◌, ◌≡◌, ◌++◌}
+use Rattle.std.specs.Prelude.{◌-◌, ◌≤◌, ◌≡◌, ◌++◌, Ok}
 use Rattle.laws.specs.{ℕ, List, map, replicate}
 use Rattle.refusals.specs.{Verdict}
 use Rattle.holding.specs.{Area, Holding, areas_of, subs_of, empty_sub, with_subs}
@@ -34,5 +34,5 @@ pub record WrittenAsBefore (most : Limits) (holding : Holding) : Type 0 where
 -- "and each old statement is still read": what the earlier limits accept is accepted, as the same holding
 abbrev pub StillRead : Limits → Limits → List ℕ → Type 0
 StillRead few more s =
-    (read_within few s).verdict ≡ Verdict.Accepted
-    → read_within more s ≡ record { verdict = Verdict.Accepted; holding = holding_in_places more.subs (read_within few s).holding }
+    (read_within few s).verdict ≡ Ok tt
+    → read_within more s ≡ record { verdict = (Ok tt); holding = holding_in_places more.subs (read_within few s).holding }

@@ -1,5 +1,5 @@
 -- The examples that document 01 marks, each with what it says.
-use Rattle.std.specs.Prelude.{◌≡◌, ◌∷◌}
+use Rattle.std.specs.Prelude.{◌≡◌, ◌∷◌, Ok, Err}
 use Rattle.laws.specs.{ℕ, List, [], ℤ, pos, negsuc}
 use Rattle.units.specs.{nearest_tonne}
 use Rattle.refusals.specs.{Refusal}
@@ -8,13 +8,13 @@ use Rattle.rates.specs.{share_after}
 use Rattle.line_entry.specs.{Act, Parsed, Entry, on}
 use Rattle.line.specs.{entry_of}
 use Rattle.land_groups.specs.{Group}
-use Rattle.land_trees.specs.{Hectare, hectare_of}
+use Rattle.land_trees.specs.{Answer, aged, hectare_of}
 
 pub data Example : Type 0 where
   -- the bytes of a line and what it says
   Line : List ℕ → Parsed → Example
   -- the tree groups of a hectare, and its type and age
-  Trees : List Group → Hectare → Example
+  Trees : List Group → Answer → Example
   -- a difference in kilograms and the tonnes that it is
   Tonnes : ℤ → ℤ → Example
   -- years since a clearing and the tenths of the residue that are left
@@ -38,7 +38,7 @@ abbrev pub rest : List ℕ
 rest = 44 ∷ 68 ∷ 44 ∷ 50 ∷ 48 ∷ 48 ∷ 56 ∷ 10 ∷ []
 
 abbrev pub tenths : ℕ → Parsed
-tenths n = Parsed.Taken (Entry.On (on 7 (Act.Add 1 (record { 0 = n }) Forest.DouglasFir 2008)))
+tenths n = Ok (Entry.On (on 7 (Act.Add 1 (record { 0 = n }) Forest.DouglasFir 2008)))
 
 abbrev pub group : ℕ → Forest → ℕ → ℕ → Group
 group species forest age area = record { species = species; forest = forest; age = age; basal_area = area }
@@ -49,14 +49,14 @@ marked =
     Line (hectares_line (52 ∷ 53 ∷ 46 ∷ 56 ∷ 51 ∷ rest)) (tenths 458)
     ∷ Line (hectares_line (52 ∷ 53 ∷ 46 ∷ 56 ∷ 53 ∷ rest)) (tenths 459)
     ∷ Line (hectares_line (49 ∷ 46 ∷ 48 ∷ 52 ∷ rest)) (tenths 10)
-    ∷ Line (hectares_line (48 ∷ 46 ∷ 57 ∷ 57 ∷ rest)) (Parsed.Refused Refusal.Hectares)
-    ∷ Line (hectares_line (49 ∷ 48 ∷ 48 ∷ 48 ∷ 48 ∷ 46 ∷ 48 ∷ 49 ∷ rest)) (Parsed.Refused Refusal.Hectares)
+    ∷ Line (hectares_line (48 ∷ 46 ∷ 57 ∷ 57 ∷ rest)) (Err Refusal.Hectares)
+    ∷ Line (hectares_line (49 ∷ 48 ∷ 48 ∷ 48 ∷ 48 ∷ 46 ∷ 48 ∷ 49 ∷ rest)) (Err Refusal.Hectares)
     -- "*Ages 30 and 15 at 70 and 30: 26": radiata of mixed age
-    ∷ Trees (group 1 (Forest.Radiata Region.Auckland) 15 30 ∷ group 1 (Forest.Radiata Region.Auckland) 30 70 ∷ []) (Hectare.Of (Forest.Radiata Region.Auckland) 26)
+    ∷ Trees (group 1 (Forest.Radiata Region.Auckland) 15 30 ∷ group 1 (Forest.Radiata Region.Auckland) 30 70 ∷ []) (aged (Forest.Radiata Region.Auckland) 26)
     -- "*28 from 30 and 25 at 60 and 30": two eucalypts, and kanuka that does not count
-    ∷ Trees (group 1 Forest.ExoticHardwoods 30 60 ∷ group 2 Forest.ExoticHardwoods 25 30 ∷ group 3 Forest.Indigenous 5 10 ∷ []) (Hectare.Of Forest.ExoticHardwoods 28)
+    ∷ Trees (group 1 Forest.ExoticHardwoods 30 60 ∷ group 2 Forest.ExoticHardwoods 25 30 ∷ group 3 Forest.Indigenous 5 10 ∷ []) (aged Forest.ExoticHardwoods 28)
     -- "*24 from 30 and 15 at 60 and 40": redwood and Pinus muricata
-    ∷ Trees (group 1 Forest.ExoticSoftwoods 30 60 ∷ group 2 Forest.ExoticSoftwoods 15 40 ∷ []) (Hectare.Of Forest.ExoticSoftwoods 24)
+    ∷ Trees (group 1 Forest.ExoticSoftwoods 30 60 ∷ group 2 Forest.ExoticSoftwoods 15 40 ∷ []) (aged Forest.ExoticSoftwoods 24)
     -- "*500 kg is 1 t, *−500 is −1, *499 is 0."
     ∷ Tonnes (pos 500) (pos 1)
     ∷ Tonnes (negsuc 499) (negsuc 0)

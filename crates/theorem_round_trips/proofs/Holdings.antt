@@ -1,4 +1,5 @@
 -- A holding that a statement carries, written, reads back the same: what is read where it was written is the holding, and the whole statement is read.
+use Rattle.std.specs.Prelude.{Ok}
 use Rattle.laws.proofs.{◌<◌, ◌≡◌, arith, length}
 use Rattle.refusals.specs.{Verdict}
 use Rattle.holding.specs.{Holding}
@@ -15,7 +16,7 @@ unfolding statement_of joined start_text
 statement-some holding = omega arith
 
 -- a holding that a statement carries, written, reads back the same
-pub written_reads : (holding : Holding) → Kept holding → read_of (statement_of holding) ≡ record { verdict = Verdict.Accepted; holding = holding }
+pub written_reads : (holding : Holding) → Kept holding → read_of (statement_of holding) ≡ record { verdict = (Ok tt); holding = holding }
 written_reads holding kept =
     let s = statement_of holding in
     accepted-read limits s holding (holding_here s (length s) holding kept (stands_whole s)) (statement-some holding) kept.carries

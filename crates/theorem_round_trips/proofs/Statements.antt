@@ -1,5 +1,6 @@
 -- A statement that is read writes back to the same bytes, whatever the limits are: what is read stands in the statement as the writer writes it, up to its
 -- last byte.
+use Rattle.std.specs.Prelude.{Ok}
 use Rattle.laws.proofs.{ℕ, ◌≡◌, sym, ap, subst, ◌∙◌, List}
 use Rattle.refusals.specs.{Verdict}
 use Rattle.statement_carried.specs.{Limits}
@@ -12,7 +13,7 @@ use Rattle.theorem_round_trips.proofs.ReadWrites.{holding_there, holding-tidy}
 use Rattle.statement.proofs.Accepted.{read-accepted, read-holding}
 
 -- whatever the limits are
-module _ (most : Limits) (s : List ℕ) (clear : (read_within most s).verdict ≡ Verdict.Accepted) where
+module _ (most : Limits) (s : List ℕ) (clear : (read_within most s).verdict ≡ Ok tt) where
   same-holding : (read_within most s).holding ≡ (holding_within most.subs s).holding
   same-holding = ap (λ (r : Read). r.holding) (read-holding most s clear)
 

@@ -1,5 +1,6 @@
 -- Demand 3 for the listing of a book, by what each line comes to: a refused one leaves the run's table and holding and prints X, an accepted T makes
 -- the table longer and prints nothing, and an accepted act is a step that prints its report.
+use Rattle.std.specs.Prelude.{Ok, Err}
 use Rattle.laws.proofs.{ℕ, ◌+◌, ◌≡◌, refl, sym, ap, subst, ◌∙◌, Bool, true, false, cond, List, [], ◌∷◌, ◌++◌, arith, ltb, length}
 use Rattle.refusals.specs.{Refusal, Verdict}
 use Rattle.schedules.specs.{schedule6}
@@ -58,20 +59,20 @@ module _ (run : Run) (line : List ℕ) (lines : List (List ℕ)) where
     rest_follow : (after : Run) → next run line ≡ after → LinesFollow lines after
     rest_follow after e = rest after (subst RunKept e (next-kept run line kept))
 
-    refused_follows : (r : Refusal) → outcome.verdict ≡ Verdict.Refused r → LinesFollow (line ∷ lines) run
+    refused_follows : (r : Refusal) → outcome.verdict ≡ Err r → LinesFollow (line ∷ lines) run
     unfolding line_taken
     refused_follows r e =
         let after = next-refused run line r e (line_leaves own holding kept.table line (entry_of line) r e) in
-        line_follows (entry_of line) (Verdict.Refused r) _ _ refl e after (printed-refused run line r e)
+        line_follows (entry_of line) (Err r) _ _ refl e after (printed-refused run line r e)
         (follows_as (refusal_untold _ r _) (rest_follow _ after))
 
-    module _ (clear : outcome.verdict ≡ Verdict.Accepted) where
-      module _ (entry : Entry) (read : entry_of line ≡ Parsed.Taken entry) where
+    module _ (clear : outcome.verdict ≡ Ok tt) where
+      module _ (entry : Entry) (read : entry_of line ≡ Ok entry) where
         by_entry : outcome ≡ entry_taken own holding line entry
         unfolding line_taken parsed_taken
         by_entry = rw read
 
-        clear_entry : (entry_taken own holding line entry).verdict ≡ Verdict.Accepted
+        clear_entry : (entry_taken own holding line entry).verdict ≡ Ok tt
         clear_entry = ap (λ (o : Outcome). o.verdict) (sym by_entry) ∙ clear
 
         -- by the table and the outcome that the entry leaves
@@ -82,30 +83,30 @@ module _ (run : Run) (line : List ℕ) (lines : List (List ℕ)) where
           next_is : next run line ≡ after
           next_is = next-accepted run line more (placed holding o) clear (ap (parsed_table own line) read ∙ p) (ap (placed holding) (by_entry ∙ q))
 
-          entry_follows : (LinesFollow lines after → LineFollows (Parsed.Taken entry) Verdict.Accepted after (report_text o.report)) → LinesFollow (line ∷ lines) run
+          entry_follows : (LinesFollow lines after → LineFollows (Ok entry) (Ok tt) after (report_text o.report)) → LinesFollow (line ∷ lines) run
           entry_follows f =
-              line_follows (Parsed.Taken entry) Verdict.Accepted _ _ read clear next_is
+              line_follows (Ok entry) (Ok tt) _ _ read clear next_is
               (printed-accepted run line clear ∙ ap (λ (x : Outcome). report_text x.report) (by_entry ∙ q)) (f (rest_follow after next_is))
 
       accepted_follows : (parsed : Parsed) → entry_of line ≡ parsed → LinesFollow (line ∷ lines) run
       unfolding entry_taken line_taken parsed_taken placed report_text
-      accepted_follows (Parsed.Refused r) read =
+      accepted_follows (Err r) read =
           let refused = ap (λ (p : Parsed). (parsed_taken own holding line p).verdict) (sym read) ∙ clear in
           let z : ◌≡◌ {A = ℕ} 0 1 = cc in
           absurd (omega arith)
-      accepted_follows (Parsed.Taken (Entry.Column column)) read =
+      accepted_follows (Ok (Entry.Column column)) read =
           let taken = clear_entry (Entry.Column column) read in
           entry_follows (Entry.Column column) read _ (column_taken holding.count) refl (answered_clear _ _ taken).1
           (λ f. column_follows own holding _ _ _ _ _ (column_first holding own line column taken) f)
-      accepted_follows (Parsed.Taken (Entry.On on)) read =
+      accepted_follows (Ok (Entry.On on)) read =
           let o = applied own schedule6 holding on in
           entry_follows (Entry.On on) read own o refl refl
           (λ f. follows_as (report_told o.report _)
           (act_follows own holding _ _ _ _ on (report_text o.report) kept.table (clear_entry (Entry.On on) read) refl f))
 
     one_follows : (v : Verdict) → outcome.verdict ≡ v → LinesFollow (line ∷ lines) run
-    one_follows (Verdict.Refused r) e = refused_follows r e
-    one_follows Verdict.Accepted e = accepted_follows e (entry_of line) refl
+    one_follows (Err r) e = refused_follows r e
+    one_follows (Ok _) e = accepted_follows e (entry_of line) refl
 
 closing_untold : (run : Run) → RunKept run → reports_in (closing run) ≡ []
 closing_untold run kept =

@@ -1,6 +1,7 @@
 -- Demand 3 for lines through the call, by what each call comes to. A refused one leaves the program's statement and table. An accepted one has read the
 -- program's statement as the holding that was written, by a table that is one, and what it writes is the statement after the act and its report, or the
 -- longer table.
+use Rattle.std.specs.Prelude.{Ok, Err}
 use Rattle.laws.proofs.{ℕ, ◌≡◌, refl, sym, ap, subst, ◌∙◌, Bool, true, false, cond, List, [], ◌∷◌, ◌++◌, arith, ltb, length, drop}
 use lib.IntN.{ℤ, pos, negsuc}
 use Rattle.refusals.specs.{Refusal, Verdict}
@@ -63,7 +64,7 @@ module _ (caller : Caller) (holding : Holding) (line : List ℕ) (lines : List (
 
   module _ (kept : Kept holding) (written : caller.statement ≡ statement_of holding)
       (rest : (c : Caller) (h : Holding) → Kept h → c.statement ≡ statement_of h → LinesFollow lines c h) where
-    refused_follows : (r : Refusal) → verdict ≡ Verdict.Refused r → LinesFollow (line ∷ lines) caller holding
+    refused_follows : (r : Refusal) → verdict ≡ Err r → LinesFollow (line ∷ lines) caller holding
     refused_follows r w =
         let call = answer_refused caller.statement caller.table line caller.out r w in
         let minus = minus_number r in
@@ -71,22 +72,22 @@ module _ (caller : Caller) (holding : Holding) (line : List ℕ) (lines : List (
         line_follows (entry_of line) (negsuc minus.0) _ _ refl answer (by_answer caller line caller.out (negsuc minus.0) call.1 answer)
         (rest _ holding kept written)
 
-    module _ (w : verdict ≡ Verdict.Accepted) where
-      read_back : read_of caller.statement ≡ record { verdict = Verdict.Accepted; holding = holding }
+    module _ (w : verdict ≡ Ok tt) where
+      read_back : read_of caller.statement ≡ record { verdict = (Ok tt); holding = holding }
       read_back = accepts_that caller.statement holding kept (sym written)
 
-      clear : call_verdict caller.statement caller.table line ≡ Verdict.Accepted
+      clear : call_verdict caller.statement caller.table line ≡ Ok tt
       unfolding call_weighed with_room
       clear = clear_before _ (ltb (length caller.out) (length (call_bytes caller.statement caller.table line))) Refusal.OutputShort w
 
       is_own : is_table own ≡ true
       is_own = table_is caller.table (call_clear caller.statement caller.table line clear).1
 
-      clear_line : (line_taken own holding line).verdict ≡ Verdict.Accepted
+      clear_line : (line_taken own holding line).verdict ≡ Ok tt
       clear_line =
           ap (λ (r : Read). (line_taken own r.holding line).verdict) (sym read_back) ∙ (call_clear caller.statement caller.table line clear).3
 
-      module _ (entry : Entry) (read : entry_of line ≡ Parsed.Taken entry) where
+      module _ (entry : Entry) (read : entry_of line ≡ Ok entry) where
         abbrev bytes : List ℕ
         bytes = entry_bytes own holding line entry
 
@@ -97,29 +98,29 @@ module _ (caller : Caller) (holding : Holding) (line : List ℕ) (lines : List (
         unfolding call_bytes
         writes = rw (read_back, read)
 
-        clear_entry : (entry_taken own holding line entry).verdict ≡ Verdict.Accepted
+        clear_entry : (entry_taken own holding line entry).verdict ≡ Ok tt
         unfolding line_taken parsed_taken
         clear_entry = ap (λ (p : Parsed). (parsed_taken own holding line p).verdict) (sym read) ∙ clear_line
 
         entry_follows : (t : Bool) → is_column entry ≡ t
-            → LineFollows (Parsed.Taken entry) (pos (length bytes)) (taken caller t out bytes) (cond t [] (report_in bytes)) → LinesFollow (line ∷ lines) caller holding
+            → LineFollows (Ok entry) (pos (length bytes)) (taken caller t out bytes) (cond t [] (report_in bytes)) → LinesFollow (line ∷ lines) caller holding
         entry_follows t e f =
             let call = answer_accepted caller.statement caller.table line caller.out w in
             let answer = call.0 ∙ ap (λ (b : List ℕ). pos (length b)) writes in
             let left = call.1 ∙ ap (λ (b : List ℕ). b ++ drop (length b) caller.out) writes in
-            line_follows (Parsed.Taken entry) (pos (length bytes)) _ _ read answer
+            line_follows (Ok entry) (pos (length bytes)) _ _ read answer
             (by_written caller line bytes left answer t (sym (column_line line entry read) ∙ e)) f
 
       accepted_follows : (parsed : Parsed) → entry_of line ≡ parsed → LinesFollow (line ∷ lines) caller holding
       unfolding entry_taken entry_bytes line_taken parsed_taken
-      accepted_follows (Parsed.Refused r) read =
+      accepted_follows (Err r) read =
           let refused = ap (λ (p : Parsed). (parsed_taken own holding line p).verdict) (sym read) ∙ clear_line in
           let z : ◌≡◌ {A = ℕ} 0 1 = cc in
           absurd (omega arith)
-      accepted_follows (Parsed.Taken (Entry.Column column)) read =
+      accepted_follows (Ok (Entry.Column column)) read =
           entry_follows (Entry.Column column) read true refl
           (column_follows own holding _ _ _ _ _ (column_first holding own line column (clear_entry (Entry.Column column) read)) (rest _ holding kept written))
-      accepted_follows (Parsed.Taken (Entry.On on)) read =
+      accepted_follows (Ok (Entry.On on)) read =
           let outcome = applied own schedule6 holding on in
           let after = placed holding outcome in
           entry_follows (Entry.On on) read false refl
@@ -127,8 +128,8 @@ module _ (caller : Caller) (holding : Holding) (line : List ℕ) (lines : List (
           (rest _ after (act_kept own holding is_own kept on) (statement-split after outcome.report)))
 
     one_follows : (v : Verdict) → verdict ≡ v → LinesFollow (line ∷ lines) caller holding
-    one_follows (Verdict.Refused r) w = refused_follows r w
-    one_follows Verdict.Accepted w = accepted_follows w (entry_of line) refl
+    one_follows (Err r) w = refused_follows r w
+    one_follows (Ok _) w = accepted_follows w (entry_of line) refl
 
 lines_follow : (lines : List (List ℕ)) (caller : Caller) (holding : Holding) → Kept holding → caller.statement ≡ statement_of holding → LinesFollow lines caller holding
 unfolding caller_after sent_from reports_from

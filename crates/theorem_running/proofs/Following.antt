@@ -1,5 +1,6 @@
 -- The accepted lines, one in front of those that follow. A T line is accepted only while no area stands (33), and after an accepted act one stands:
 -- so from the first act on the table is the one that stands in the end, and every act ran under it.
+use Rattle.std.specs.Prelude.{Ok}
 use Rattle.laws.proofs.{ℕ, ◌≤◌, true, ◌≡◌, refl, sym, ap, subst, ◌∙◌, Bool, ◌&&◌, List, [], ◌∷◌, ◌++◌, arith}
 use Rattle.laws.specs.{every}
 use Rattle.refusals.specs.{Verdict}
@@ -49,7 +50,7 @@ module _ (own : List ℕ) (holding : Holding) (last : List ℕ) (sent : List Are
     abbrev outcome : Outcome
     outcome = applied own schedule6 holding on
 
-    pub act_follows : (shows : List ℕ) → is_table own ≡ true → outcome.verdict ≡ Verdict.Accepted → shows ≡ report_text outcome.report
+    pub act_follows : (shows : List ℕ) → is_table own ≡ true → outcome.verdict ≡ Ok tt → shows ≡ report_text outcome.report
         → Follows own (placed holding outcome) last sent statement reports → Follows own holding last (on ∷ sent) statement (shows ++ reports)
     unfolding result_of holding_from outcomes_from every reports_of texts
     act_follows shows table e s f = record {

@@ -1,5 +1,5 @@
 -- Demand 3 for what runs: the accepted lines are steps of demand 3, under the one table that stands after them all.
-use Rattle.std.specs.Prelude.{◌≡◌, ◌∷◌}
+use Rattle.std.specs.Prelude.{◌≡◌, ◌∷◌, Ok, Err}
 use Rattle.laws.specs.{ℕ, Bool, true, List, [], map, every}
 use Rattle.line_entry.specs.{AreaAct, Entry, Parsed}
 use Rattle.step_outcome.specs.{Outcome}
@@ -10,9 +10,9 @@ use Rattle.theorem_demand_three.specs.{Step, holding_after, outcomes_of, DemandT
 
 -- the act that a line is read as; T is none
 abbrev pub acts_in : Parsed → List AreaAct
-acts_in (Parsed.Taken (Entry.On on)) = on ∷ []
-acts_in (Parsed.Taken (Entry.Column column)) = []
-acts_in (Parsed.Refused refusal) = []
+acts_in (Ok (Entry.On on)) = on ∷ []
+acts_in (Ok (Entry.Column column)) = []
+acts_in (Err refusal) = []
 
 -- acts as steps of demand 3
 abbrev pub enter_each : List AreaAct → List Step

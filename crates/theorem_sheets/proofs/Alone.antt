@@ -1,6 +1,7 @@
 -- Of acts that are all accepted, those that open an area or add a sub-area are accepted alone. The holding that they reach looks after every act as that of
 -- the whole list would, had none of its areas filed or been withdrawn: an opening puts the same area behind both, an addition puts one number more into the
 -- same area, and every other act leaves numbers, openings and the numbers of sub-areas.
+use Rattle.std.specs.Prelude.{Some, None, Option}
 use Rattle.laws.proofs.{ℕ, ◌+◌, ◌<◌, true, false, ◌≡◌, refl, sym, ap, subst, ◌∙◌, List, [], ◌∷◌, ◌++◌, map, arith, leb-false, length, take, get_or, set}
 use Rattle.laws.specs.{keep}
 use mathlib.Core.List.{map-append}
@@ -14,7 +15,7 @@ use Rattle.forest.specs.{Forest}
 use Rattle.schedules.specs.{schedule6}
 use Rattle.table.specs.{is_table}
 use Rattle.line_entry.specs.{Act, AreaAct, on}
-use Rattle.holding.specs.{Sub, Area, Holding, Found, most_areas, areas_of, subs_of, empty_sub, empty_area, opened_area, find_area, find_sub}
+use Rattle.holding.specs.{Sub, Area, Holding, most_areas, areas_of, subs_of, empty_sub, empty_area, opened_area, find_area, find_sub}
 use Rattle.holding_look.specs.{area_at, sub_at, subs_with, looked_up, with_sub}
 use Rattle.step_outcome.specs.{Report, Outcome, accepted, answered, placed_at, placed}
 use Rattle.step_open.specs.{open_cases}
@@ -39,19 +40,19 @@ use Rattle.theorem_sheets.proofs.Views.{View, view_of, unfiled, Alike, find_alik
 -- ---- what an act does to views
 
 -- a sub-area put back under its number
-numbers_stay : (area : Area) (found : Found) (sub : Sub) → sub.number ≡ (sub_at area found).number
+numbers_stay : (area : Area) (found : Option ℕ) (sub : Sub) → sub.number ≡ (sub_at area found).number
     → map sub_number (take area.count (subs_with area.subs found sub)) ≡ map sub_number (subs_of area)
 unfolding sub_at
-numbers_stay area Found.Nowhere sub e = refl
-numbers_stay area (Found.At i) sub e = stood_same area.count area.subs sub_number i sub empty_sub e
+numbers_stay area None sub e = refl
+numbers_stay area (Some i) sub e = stood_same area.count area.subs sub_number i sub empty_sub e
 
 module _ {B : Type 0} (view : Area → B) (holding : Holding) where
   -- an area put back as it looked
-  stays : (found : Found) (area : Area) → view area ≡ view (area_at holding found)
+  stays : (found : Option ℕ) (area : Area) → view area ≡ view (area_at holding found)
       → map view (areas_of (placed_at holding found holding.count area)) ≡ map view (areas_of holding)
   unfolding area_at
-  stays Found.Nowhere area e = refl
-  stays (Found.At i) area e = stood_same holding.count holding.areas view i area empty_area e
+  stays None area e = refl
+  stays (Some i) area e = stood_same holding.count holding.areas view i area empty_area e
 
   put : (i : ℕ) (area : Area) → i < holding.count → map view (take holding.count (set holding.areas i area)) ≡ set (map view (areas_of holding)) i (view area)
   put i area h = ap (map view) (take-set-lt holding.count holding.areas i area h) ∙ map-set view (areas_of holding) i area
@@ -109,7 +110,7 @@ module _ (own : List ℕ) (table : is_table own ≡ true) where
           let sub = new_sub number land forest year in
           let k = adding_read own table whole n number land forest year e in
           let i = k.place in
-          let found : find_area alone n ≡ Found.At i = find_alike alone whole alike n ∙ k.found in
+          let found : find_area alone n ≡ Some i = find_alike alone whole alike n ∙ k.found in
           let a = get_or alone.areas i empty_area in
           let b = get_or whole.areas i empty_area in
           let kept_a = register_at kept_alone n i empty_area found in

@@ -1,5 +1,6 @@
 -- What an accepted A entry says of a holding, and an accepted S entry; and the other way, that it is accepted where that holds, and what it leaves. An A entry
 -- wants its number unknown and the count alone; an S entry looks at the one area that it finds.
+use Rattle.std.specs.Prelude.{Ok, Some, None, Option}
 use Rattle.laws.proofs.{ℕ, ◌+◌, true, ◌≡◌, refl, sym, ap, subst, ◌∙◌, List, get_or, set}
 use Rattle.laws.proofs.Elements.{clash}
 use Rattle.refusals.specs.{smallest, Verdict}
@@ -9,7 +10,7 @@ use Rattle.forest.specs.{Forest}
 use Rattle.schedules.specs.{schedule6}
 use Rattle.table.specs.{is_table}
 use Rattle.line_entry.specs.{Act, AreaAct, on}
-use Rattle.holding.specs.{Sub, Holding, Found, empty_area, opened_area, find_area}
+use Rattle.holding.specs.{Sub, Holding, empty_area, opened_area, find_area}
 use Rattle.holding_look.specs.{Looked, area_at, looked_at, looked_up}
 use Rattle.step_outcome.specs.{Report, Outcome, accepted, answered, area_cases, placed}
 use Rattle.step_outcome.proofs.Laws.{answered_clear}
@@ -22,16 +23,16 @@ use Rattle.theorem_sheets.proofs.Taken.{Accepts, after_act}
 
 -- a number that was looked up and not found
 abbrev pub nowhere : ℕ → ℕ → Looked
-nowhere number count = record { number = number; count = count; found = Found.Nowhere; area = empty_area }
+nowhere number count = record { number = number; count = count; found = None; area = empty_area }
 
 pub record OpensOn (holding : Holding) (n opening : ℕ) : Type 0 where
-  pub unknown : find_area holding n ≡ Found.Nowhere
-  pub clear : smallest (open_cases (nowhere n holding.count) opening) ≡ Verdict.Accepted
+  pub unknown : find_area holding n ≡ None
+  pub clear : smallest (open_cases (nowhere n holding.count) opening) ≡ Ok tt
 
 pub record AddsOn (holding : Holding) (n : ℕ) (sub : Sub) : Type 0 where
   pub place : ℕ
-  pub found : find_area holding n ≡ Found.At place
-  pub clear : smallest (add_cases n sub (Found.At place) (get_or holding.areas place empty_area)) ≡ Verdict.Accepted
+  pub found : find_area holding n ≡ Some place
+  pub clear : smallest (add_cases n sub (Some place) (get_or holding.areas place empty_area)) ≡ Ok tt
 
 abbrev pub with_opened : Holding → ℕ → ℕ → Holding
 with_opened holding n opening = record { count = holding.count + 1; areas = set holding.areas holding.count (opened_area n opening) }
@@ -50,7 +51,7 @@ opens_like {one} {other} {n} {opening} c f k =
 
 module _ (own : List ℕ) (table : is_table own ≡ true) (holding : Holding) (n : ℕ) where
   module _ (opening : ℕ) where
-    abbrev verdict_at : Found → Verdict
+    abbrev verdict_at : Option ℕ → Verdict
     verdict_at found = smallest (open_cases (looked_at holding n found) opening)
 
     step_opens : stepped own holding (on n (Act.Open opening)) ≡ opened (looked_up holding n) opening
@@ -60,14 +61,14 @@ module _ (own : List ℕ) (table : is_table own ≡ true) (holding : Holding) (n
     pub opening-read : Accepts own holding (on n (Act.Open opening)) → OpensOn holding n opening
     unfolding opened open_cases area_at
     opening-read e =
-        let clear : verdict_at (find_area holding n) ≡ Verdict.Accepted = (answered_clear _ _ (ap (λ (o : Outcome). o.verdict) (sym step_opens) ∙ e)).0 in
-        let none : find_area holding n ≡ Found.Nowhere = unknown (find_area holding n) (ruled_out (open_cases (looked_up holding n) opening) clear 3) in
-        record { unknown = none; clear = subst (λ (found : Found). verdict_at found ≡ Verdict.Accepted) none clear }
+        let clear : verdict_at (find_area holding n) ≡ Ok tt = (answered_clear _ _ (ap (λ (o : Outcome). o.verdict) (sym step_opens) ∙ e)).0 in
+        let none : find_area holding n ≡ None = unknown (find_area holding n) (ruled_out (open_cases (looked_up holding n) opening) clear 3) in
+        record { unknown = none; clear = subst (λ (found : Option ℕ). verdict_at found ≡ Ok tt) none clear }
 
     pub opening_made : OpensOn holding n opening → Leaves own holding (on n (Act.Open opening)) (with_opened holding n opening)
     unfolding opened answered placed area_at
     opening_made k =
-        let outcome = accepted Report.Nothing (Found.At holding.count) (holding.count + 1) (opened_area n opening) in
+        let outcome = accepted Report.Nothing (Some holding.count) (holding.count + 1) (opened_area n opening) in
         let same : stepped own holding (on n (Act.Open opening)) ≡ outcome =
         step_opens ∙ ap (λ (v : Verdict). answered v outcome) (ap verdict_at k.unknown ∙ k.clear) in
         (ap (λ (o : Outcome). o.verdict) same, ap (placed holding) same)
@@ -79,10 +80,10 @@ module _ (own : List ℕ) (table : is_table own ≡ true) (holding : Holding) (n
     abbrev adding : AreaAct
     adding = on n (Act.Add number land forest year)
 
-    abbrev added_verdict : Found → Verdict
+    abbrev added_verdict : Option ℕ → Verdict
     added_verdict found = smallest (add_cases n sub found (area_at holding found))
 
-    abbrev added_outcome : Found → Outcome
+    abbrev added_outcome : Option ℕ → Outcome
     added_outcome found = accepted Report.Nothing found holding.count (added_area own schedule6 (area_at holding found) sub)
 
     step_adds : stepped own holding adding ≡ added own schedule6 (looked_up holding n) sub
@@ -93,14 +94,14 @@ module _ (own : List ℕ) (table : is_table own ≡ true) (holding : Holding) (n
     unfolding added add_cases area_cases area_at
     adding_read e = go (find_area holding n) refl (answered_clear _ _ (ap (λ (o : Outcome). o.verdict) (sym step_adds) ∙ e)).0
       where
-        go : (found : Found) → find_area holding n ≡ found → added_verdict found ≡ Verdict.Accepted → AddsOn holding n sub
-        go (Found.At i) e clear = record { place = i; found = e; clear = clear }
-        go Found.Nowhere e clear = clash (ruled_out (add_cases n sub Found.Nowhere empty_area) clear 4)
+        go : (found : Option ℕ) → find_area holding n ≡ found → added_verdict found ≡ Ok tt → AddsOn holding n sub
+        go (Some i) e clear = record { place = i; found = e; clear = clear }
+        go None e clear = clash (ruled_out (add_cases n sub None empty_area) clear 4)
 
     pub adding_made : (k : AddsOn holding n sub) → Leaves own holding adding (with_added own holding k.place sub)
     unfolding added answered placed area_at
     adding_made k =
-        let outcome = added_outcome (Found.At k.place) in
+        let outcome = added_outcome (Some k.place) in
         let same : stepped own holding adding ≡ outcome =
-        step_adds ∙ ap (λ (found : Found). answered (added_verdict found) (added_outcome found)) k.found ∙ ap (λ (v : Verdict). answered v outcome) k.clear in
+        step_adds ∙ ap (λ (found : Option ℕ). answered (added_verdict found) (added_outcome found)) k.found ∙ ap (λ (v : Verdict). answered v outcome) k.clear in
         (ap (λ (o : Outcome). o.verdict) same, ap (placed holding) same)

@@ -1,5 +1,6 @@
 -- A book with a refused S line, an area that is withdrawn, and an area opened behind its S entries: its rows, as antt computes them. Onto its A entries they are
 -- taken; onto the holding of the whole book the first is turned down, since its area is withdrawn.
+use Rattle.std.specs.Prelude.{Ok, Err}
 use Rattle.laws.proofs.{ℕ, ◌≡◌, refl, List, [], ◌∷◌}
 use Rattle.laws.specs.{every, keep, sum_by, all_of}
 use Rattle.refusals.specs.{Refusal, Verdict, weighed, weigh_all, smallest}
@@ -55,8 +56,8 @@ rows =
 
 pub record Examples : Type 0 where
   pub rows_shown : sheet_rows (export_of book) ≡ rows
-  pub onto_openings : (imported book).verdict ≡ Verdict.Accepted
-  pub onto_whole : (import_onto [] (run_from start (lines_run book)).holding (export_of book)).verdict ≡ Verdict.Refused Refusal.AreaWithdrawn
+  pub onto_openings : (imported book).verdict ≡ Ok tt
+  pub onto_whole : (import_onto [] (run_from start (lines_run book)).holding (export_of book)).verdict ≡ Err Refusal.AreaWithdrawn
 
 pub examples_hold : Examples
 unfolding every keep sum_by all_of weighed weigh_all smallest tenths_of trees_of place_six length_of consulted cell_at rate_six width_to holds extend split join_after join append more headed number_in with_decimals decimal_in hectares_in beside letter_names named letter_in parsed area_and_year open_rule add_rule withdraw_rule body_of letter_of rule_of line_rule conditions entry_of is_table judged place_from find_area find_sub residues_in area_at trees_on residue_on sub_stock years_carried amounts_within fields_within texts answered placed area_cases open_cases opened add_cases added_area added withdraw_cases withdrawn_area withdrawn applied stepped holding_from lines_of entry_taken parsed_taken line_taken table_after start next run_from lines_run exported_row exported_from export_rows export_of after_field plain_at begins_at turned reading_after sound in_front field_in_front marked rows_from rows_of same_by regular sheet_verdict doubled quoted row_text sheet_text row_of import_rows import_onto acts_from

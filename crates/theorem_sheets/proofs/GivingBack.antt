@@ -1,5 +1,6 @@
 -- A book's accepted acts are accepted under its table; so its A and S entries are accepted alone, and in the same way with the A entries first. The rows of
 -- its export are read as its S entries: they are taken on the holding that the A entries reach, and lead to the holding of both.
+use Rattle.std.specs.Prelude.{Ok}
 use Rattle.laws.proofs.{ℕ, true, ◌≡◌, refl, sym, ap, ◌∙◌, List, [], ◌∷◌, map, drop}
 use Rattle.laws.specs.{every, keep}
 use Rattle.refusals.specs.{Verdict, smallest, weigh_all, weighed}
@@ -62,7 +63,7 @@ module _ (book : List ℕ) where
   read = rows_read (heading_row ∷ rows) fields
 
   -- the sheet is sound, begins with the heading, and has rows of five fields
-  judged : sheet_verdict (export_of book) ≡ Verdict.Accepted
+  judged : sheet_verdict (export_of book) ≡ Ok tt
   unfolding export_of export_rows sheet_verdict regular same_by smallest weigh_all weighed
   judged = rw (sheet_sound (heading_row ∷ rows) fields, read, five)
 
@@ -73,7 +74,7 @@ module _ (book : List ℕ) where
   entries_are = rows_entries (lines_run book) start (run-whole book)
 
   -- it is taken on the holding that the A entries reach
-  taken : imported book ≡ record { verdict = Verdict.Accepted; holding = holding_from own (alone book) (keep adds_sub (acts_of book)) }
+  taken : imported book ≡ record { verdict = (Ok tt); holding = holding_from own (alone book) (keep adds_sub (acts_of book)) }
   unfolding import_onto
   taken =
       ap (λ (v : Verdict). imported_if v (alone book) (import_rows own (alone book) (alone book) (sheet_rows (export_of book)))) judged

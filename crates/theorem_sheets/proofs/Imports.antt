@@ -1,5 +1,6 @@
 -- An import is the steps of its rows. A row's line begins with S, so that what it is read as, if it is read at all, is one S entry; a row that is taken is an
 -- accepted step, and one that is turned down ends the import.
+use Rattle.std.specs.Prelude.{Ok, Err}
 use Rattle.laws.proofs.{ℕ, ◌≡◌, refl, sym, ap, subst, ◌∙◌, true, List, [], ◌∷◌, ◌++◌, map, arith, length}
 use Rattle.laws.specs.{every}
 use Rattle.laws.proofs.Lists.{both}
@@ -43,28 +44,28 @@ record OneAdded (row : Row) : Type 0 where
   pub read : entry_of (row_line row) ≡ entry_on on
   pub added : adds_sub on ≡ true
 
-row_added : (row : Row) (entry : Entry) → entry_of (row_line row) ≡ Parsed.Taken entry → OneAdded row
+row_added : (row : Row) (entry : Entry) → entry_of (row_line row) ≡ Ok entry → OneAdded row
 unfolding parsed add_rule
 row_added row entry e = go (smallest (conditions (body_in row))) (row_read row)
   where
     go : (v : Verdict) → entry_of (row_line row) ≡ parsed v (add_rule (split (body_in row))).entry → OneAdded row
-    go Verdict.Accepted r = record { on = _; read = r; added = refl }
-    go (Verdict.Refused s) r = absurd (let z : ◌≡◌ {A = ℕ} 0 1 = cc in omega arith)
+    go (Ok _) r = record { on = _; read = r; added = refl }
+    go (Err s) r = absurd (let z : ◌≡◌ {A = ℕ} 0 1 = cc in omega arith)
 
 -- ---- the verdict of rows
 
-if_taken_lem : (v : Verdict) (given : Holding) (rest : Imported) → (imported_if v given rest).verdict ≡ Verdict.Accepted → v ≡ Verdict.Accepted
-if_taken_lem Verdict.Accepted given rest e = refl
-if_taken_lem (Verdict.Refused r) given rest e = e
+if_taken_lem : (v : Verdict) (given : Holding) (rest : Imported) → (imported_if v given rest).verdict ≡ Ok tt → v ≡ Ok tt
+if_taken_lem (Ok _) given rest e = refl
+if_taken_lem (Err r) given rest e = e
 
 -- a refusal answers the holding that was given
-pub if_refused : (v : Verdict) (given : Holding) (rest : Imported) (r : Refusal) → (imported_if v given rest).verdict ≡ Verdict.Refused r
-    → (rest.verdict ≡ Verdict.Refused r → rest.holding ≡ given) → (imported_if v given rest).holding ≡ given
-if_refused Verdict.Accepted given rest r e later = later e
-if_refused (Verdict.Refused s) given rest r e later = refl
+pub if_refused : (v : Verdict) (given : Holding) (rest : Imported) (r : Refusal) → (imported_if v given rest).verdict ≡ Err r
+    → (rest.verdict ≡ Err r → rest.holding ≡ given) → (imported_if v given rest).holding ≡ given
+if_refused (Ok _) given rest r e later = later e
+if_refused (Err s) given rest r e later = refl
 
 module _ (own : List ℕ) (given : Holding) where
-  pub rows_refused : (holding : Holding) (rows : List Row) (r : Refusal) → (import_rows own given holding rows).verdict ≡ Verdict.Refused r
+  pub rows_refused : (holding : Holding) (rows : List Row) (r : Refusal) → (import_rows own given holding rows).verdict ≡ Err r
       → (import_rows own given holding rows).holding ≡ given
   unfolding import_rows
   rows_refused holding [] r e = absurd (let z : ◌≡◌ {A = ℕ} 0 1 = cc in omega arith)
@@ -80,13 +81,13 @@ module _ (own : List ℕ) (table : is_table own ≡ true) where
     unfolding line_taken parsed_taken entry_taken
     row_steps on e = ap (parsed_taken own holding (row_line row)) e ∙ step_is own holding on table
 
-    row_one : (row_taken own holding row).verdict ≡ Verdict.Accepted → OneAdded row
+    row_one : (row_taken own holding row).verdict ≡ Ok tt → OneAdded row
     unfolding line_taken parsed_taken
     row_one e = go (entry_of (row_line row)) refl e
       where
-        go : (read : Parsed) → entry_of (row_line row) ≡ read → (parsed_taken own holding (row_line row) read).verdict ≡ Verdict.Accepted → OneAdded row
-        go (Parsed.Taken entry) r e = row_added row entry r
-        go (Parsed.Refused s) r e = absurd (let z : ◌≡◌ {A = ℕ} 0 1 = cc in omega arith)
+        go : (read : Parsed) → entry_of (row_line row) ≡ read → (parsed_taken own holding (row_line row) read).verdict ≡ Ok tt → OneAdded row
+        go (Ok entry) r e = row_added row entry r
+        go (Err s) r e = absurd (let z : ◌≡◌ {A = ℕ} 0 1 = cc in omega arith)
 
     row_first : (given : Holding) (rows : List Row) (on : AreaAct) → entry_of (row_line row) ≡ entry_on on → Accepts own holding on
         → import_rows own given holding (row ∷ rows) ≡ import_rows own given (after_act own holding on) rows
@@ -99,7 +100,7 @@ module _ (own : List ℕ) (table : is_table own ≡ true) where
   -- ---- rows that are read as acts that are all accepted
 
   pub rows_taken : (given holding : Holding) (rows : List Row) (acts : List AreaAct) → row_entries rows ≡ map entry_on acts → Taken own holding acts
-      → import_rows own given holding rows ≡ record { verdict = Verdict.Accepted; holding = holding_from own holding acts }
+      → import_rows own given holding rows ≡ record { verdict = (Ok tt); holding = holding_from own holding acts }
   unfolding import_rows holding_from Taken
   rows_taken given holding [] [] e t = refl
   rows_taken given holding [] (on ∷ acts) e t = absurd (let z : ◌≡◌ {A = ℕ} 0 1 = cc in omega arith)
@@ -115,11 +116,11 @@ module _ (own : List ℕ) (table : is_table own ≡ true) where
     abbrev RowsEntered : Holding → List Row → Type 0
     RowsEntered holding rows = Entered own holding rows (import_rows own given holding rows) (acts_of_rows rows)
 
-    pub rows_entered : (holding : Holding) (rows : List Row) → (import_rows own given holding rows).verdict ≡ Verdict.Accepted → RowsEntered holding rows
+    pub rows_entered : (holding : Holding) (rows : List Row) → (import_rows own given holding rows).verdict ≡ Ok tt → RowsEntered holding rows
     unfolding import_rows acts_of_rows every holding_from Taken
     rows_entered holding [] e = record { one_each = refl; additions = refl; taken = tt; left = refl }
     rows_entered holding (row ∷ rows) e =
-        let accepted : (row_taken own holding row).verdict ≡ Verdict.Accepted = if_taken_lem (row_taken own holding row).verdict given _ e in
+        let accepted : (row_taken own holding row).verdict ≡ Ok tt = if_taken_lem (row_taken own holding row).verdict given _ e in
         let one = row_one holding row accepted in
         let on = one.on in
         let taken = ap (λ (o : Outcome). o.verdict) (sym (row_steps holding row on one.read)) ∙ accepted in

@@ -1,5 +1,6 @@
 -- A and S entries that are all accepted in turn may be run with the A entries first. An accepted addition changes an area that stands, and an opening
 -- behind it puts its own behind all that stand: neither sees the other, so that the two may change places, and an addition moves behind all openings.
+use Rattle.std.specs.Prelude.{Some}
 use Rattle.laws.proofs.{ℕ, ◌+◌, ◌<◌, true, ◌≡◌, refl, sym, ap, subst, ◌∙◌, List, [], ◌∷◌, map, arith, leb-false, length, get_or, set}
 use Rattle.laws.specs.{keep}
 use Rattle.laws.proofs.Standing.{stood_more, stood_same}
@@ -12,7 +13,7 @@ use Rattle.forest.specs.{Forest}
 use Rattle.schedules.specs.{schedule6}
 use Rattle.table.specs.{is_table}
 use Rattle.line_entry.specs.{Act, AreaAct, on}
-use Rattle.holding.specs.{Sub, Area, Holding, Found, most_areas, areas_of, empty_area, opened_area, find_area}
+use Rattle.holding.specs.{Sub, Area, Holding, most_areas, areas_of, empty_area, opened_area, find_area}
 use Rattle.step_open.specs.{open_cases}
 use Rattle.step_add.specs.{new_sub, add_cases, added_area}
 use Rattle.step.specs.{holding_from}
@@ -62,7 +63,7 @@ module _ (own : List ℕ) (holding : Holding) (kept : AreasKept holding) (n : �
     place = i;
     found = rw (stood_more holding.count holding.areas (opened_area m opening) room)
         (found_before area_number n 0 i (areas_of holding) (opened_area m opening ∷ []) k.found);
-    clear = ap (λ (a : Area). smallest (add_cases n sub (Found.At i) a)) same_area ∙ k.clear;
+    clear = ap (λ (a : Area). smallest (add_cases n sub (Some i) a)) same_area ∙ k.clear;
   }
 
   pub both_same : with_added own (with_opened holding m opening) adds-behind.place sub ≡ with_opened (with_added own holding i sub) m opening

@@ -1,5 +1,6 @@
 -- The rows of a book's export are read as its accepted S entries, in order, and each has five fields: by induction over its lines, of which each has the row
 -- of its own entry or none.
+use Rattle.std.specs.Prelude.{Ok, Err}
 use Rattle.laws.proofs.{ℕ, Bool, true, false, cond, ◌≡◌, refl, sym, ap, ◌∙◌, List, [], ◌∷◌, ◌++◌, map}
 use Rattle.laws.specs.{keep, every}
 use Rattle.laws.proofs.Elements.{keep_append, every_append}
@@ -22,10 +23,10 @@ module _ (run : Run) (line : List ℕ) (whole : Whole line) where
   row_entries_lem : (v : Verdict) (p : Parsed) → entry_of line ≡ p
       → row_entries (exported_for v p line) ≡ map entry_on (keep adds_sub (if_accepted v (acts_in p) []))
   unfolding keep
-  row_entries_lem (Verdict.Refused r) p e = refl
-  row_entries_lem Verdict.Accepted (Parsed.Refused r) e = refl
-  row_entries_lem Verdict.Accepted (Parsed.Taken (Entry.Column column)) e = refl
-  row_entries_lem Verdict.Accepted (Parsed.Taken (Entry.On on)) e = go (adds on.act) refl
+  row_entries_lem (Err r) p e = refl
+  row_entries_lem (Ok _) (Err r) e = refl
+  row_entries_lem (Ok _) (Ok (Entry.Column column)) e = refl
+  row_entries_lem (Ok _) (Ok (Entry.On on)) e = go (adds on.act) refl
     where
       go : (t : Bool) → adds on.act ≡ t → row_entries (cond t (row_of line ∷ []) []) ≡ map entry_on (cond t (on ∷ []) [])
       go true q = ap (λ (x : Parsed). x ∷ []) (entry_again line whole (ap is_addition e ∙ q) ∙ e)
@@ -52,6 +53,6 @@ rows_five (line ∷ lines) run =
     (go (line_taken run.own run.holding line).verdict (is_addition (entry_of line))) (rows_five lines (next run line))
   where
     go : (v : Verdict) (t : Bool) → every five_fields (cond (if_accepted v t false) (row_of line ∷ []) []) ≡ true
-    go (Verdict.Refused r) t = refl
-    go Verdict.Accepted false = refl
-    go Verdict.Accepted true = refl
+    go (Err r) t = refl
+    go (Ok _) false = refl
+    go (Ok _) true = refl

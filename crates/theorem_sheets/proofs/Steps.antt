@@ -1,5 +1,6 @@
 -- An import is steps of demand 3: where the sheet is taken, one accepted S entry for each row, and else none; so what demand 3 says of every list of steps it
 -- says of the holding after an import.
+use Rattle.std.specs.Prelude.{Ok, Err}
 use Rattle.laws.proofs.{ℕ, true, ◌≡◌, refl, sym, ap, ◌∙◌, List, [], ◌++◌, arith}
 use Rattle.laws.specs.{every}
 use Rattle.refusals.specs.{Refusal, Verdict}
@@ -19,20 +20,20 @@ module _ (own : List ℕ) (table : is_table own ≡ true) (holding : Holding) (s
   abbrev result : Imported
   result = import_onto own holding sheet
 
-  refused_stays : (r : Refusal) → result.verdict ≡ Verdict.Refused r → result.holding ≡ holding
+  refused_stays : (r : Refusal) → result.verdict ≡ Err r → result.holding ≡ holding
   unfolding import_onto
   refused_stays r e = if_refused (sheet_verdict sheet) holding _ r e (rows_refused own holding holding (sheet_rows sheet) r)
 
-  sheet_entered : result.verdict ≡ Verdict.Accepted → Entered own holding (sheet_rows sheet) result (sheet_acts sheet)
+  sheet_entered : result.verdict ≡ Ok tt → Entered own holding (sheet_rows sheet) result (sheet_acts sheet)
   unfolding import_onto
   sheet_entered e = go (sheet_verdict sheet) e
     where
       rows : Imported
       rows = import_rows own holding holding (sheet_rows sheet)
 
-      go : (v : Verdict) → (imported_if v holding rows).verdict ≡ Verdict.Accepted → Entered own holding (sheet_rows sheet) (imported_if v holding rows) (sheet_acts sheet)
-      go Verdict.Accepted e = rows_entered own table holding holding (sheet_rows sheet) e
-      go (Verdict.Refused r) e = absurd (let z : ◌≡◌ {A = ℕ} 0 1 = cc in omega arith)
+      go : (v : Verdict) → (imported_if v holding rows).verdict ≡ Ok tt → Entered own holding (sheet_rows sheet) (imported_if v holding rows) (sheet_acts sheet)
+      go (Ok _) e = rows_entered own table holding holding (sheet_rows sheet) e
+      go (Err r) e = absurd (let z : ◌≡◌ {A = ℕ} 0 1 = cc in omega arith)
 
   -- by the import's verdict
   abbrev steps_if : Verdict → List Step
@@ -40,14 +41,14 @@ module _ (own : List ℕ) (table : is_table own ≡ true) (holding : Holding) (s
 
   steps_accepted : (v : Verdict) → result.verdict ≡ v → all_accepted (outcomes_from own holding (steps_if v)) ≡ true
   unfolding outcomes_from every
-  steps_accepted (Verdict.Refused r) e = refl
-  steps_accepted Verdict.Accepted e =
+  steps_accepted (Err r) e = refl
+  steps_accepted (Ok _) e =
       ap all_accepted (entered_outcomes own holding (sheet_acts sheet)) ∙ taken_all own holding (sheet_acts sheet) (sheet_entered e).taken
 
   steps_left : (v : Verdict) → result.verdict ≡ v → result.holding ≡ holding_from own holding (steps_if v)
   unfolding holding_from
-  steps_left (Verdict.Refused r) e = refused_stays r e
-  steps_left Verdict.Accepted e = (sheet_entered e).left ∙ sym (entered-holding own holding (sheet_acts sheet))
+  steps_left (Err r) e = refused_stays r e
+  steps_left (Ok _) e = (sheet_entered e).left ∙ sym (entered-holding own holding (sheet_acts sheet))
 
   -- THE THEOREM, for every table, holding and sheet
   pub import_entered : ImportEntered own holding sheet

@@ -1,4 +1,5 @@
 -- Acts that are all accepted, one after the other: said of the acts, of what they answered, and as steps of demand 3.
+use Rattle.std.specs.Prelude.{Ok, Err}
 use Rattle.laws.proofs.{ℕ, true, ◌≡◌, refl, ap, List, [], ◌∷◌, ◌++◌, arith}
 use Rattle.laws.specs.{every}
 use Rattle.laws.proofs.Lists.{and_left, and_right, both}
@@ -14,7 +15,7 @@ use Rattle.theorem_running.specs.{enter_each, all_accepted}
 
 -- an act that is accepted on a holding, and the holding after it
 abbrev pub Accepts : List ℕ → Holding → AreaAct → Type 0
-Accepts own holding on = (stepped own holding on).verdict ≡ Verdict.Accepted
+Accepts own holding on = (stepped own holding on).verdict ≡ Ok tt
 
 abbrev pub after_act : List ℕ → Holding → AreaAct → Holding
 after_act own holding on = placed holding (stepped own holding on)
@@ -24,9 +25,9 @@ unfoldable pub Taken : List ℕ → Holding → List AreaAct → Type 0
 Taken own holding [] = Unit
 Taken own holding (on ∷ acts) = Accepts own holding on × Taken own (after_act own holding on) acts
 
-was_accepted : (v : Verdict) → is_accepted v ≡ true → v ≡ Verdict.Accepted
-was_accepted Verdict.Accepted e = refl
-was_accepted (Verdict.Refused r) e = absurd (let z : ◌≡◌ {A = ℕ} 0 1 = cc in omega arith)
+was_accepted : (v : Verdict) → is_accepted v ≡ true → v ≡ Ok tt
+was_accepted (Ok _) e = refl
+was_accepted (Err r) e = absurd (let z : ◌≡◌ {A = ℕ} 0 1 = cc in omega arith)
 
 module _ (own : List ℕ) where
   pub taken_all : (holding : Holding) (acts : List AreaAct) → Taken own holding acts → all_accepted (outcomes_from own holding acts) ≡ true

@@ -1,5 +1,6 @@
 -- What an S entry looks at in an area, besides what every kept area has. Where one holding's areas look as another's would, had none of them filed or been
 -- withdrawn, both find the same areas, and an S entry that the other accepts the one accepts too.
+use Rattle.std.specs.Prelude.{Ok, Some}
 use Rattle.laws.proofs.{ℕ, ◌<◌, Bool, false, ◌≡◌, refl, sym, ap, ◌∙◌, List, [], ◌∷◌, ◌++◌, map, arith, leb-false, length, get_or, get_or-take, eqb-true, eqb, not-false}
 use Rattle.laws.proofs.Standing.{stood_more}
 use Rattle.holding.proofs.Stands.{found-same}
@@ -8,7 +9,7 @@ use lib.ListN.{get_or-map}
 use Rattle.refusals.specs.{smallest, Verdict}
 use Rattle.refusals.proofs.Laws.{RuledOut, ruled_out}
 use Rattle.schedules.specs.{schedule6}
-use Rattle.holding.specs.{Sub, Area, Holding, Found, most_subs, areas_of, subs_of, empty_area, find_area, find_sub}
+use Rattle.holding.specs.{Sub, Area, Holding, most_subs, areas_of, subs_of, empty_area, find_area, find_sub}
 use Rattle.step_outcome.specs.{area_cases}
 use Rattle.step_add.specs.{add_cases, added_area}
 use Rattle.theorem_keeping.proofs.Areas.{area_number, sub_number, AreaKept, AreasKept}
@@ -49,12 +50,12 @@ module _ (a b : Area) (e : view_of a ≡ unfiled b) where
     pub count_alike : a.count ≡ b.count
     count_alike = many_same sub_number kept_a.subs.room kept_a.subs.tidy kept_b.subs.room kept_b.subs.tidy same-subs
 
-    module _ (own : List ℕ) (n i : ℕ) (sub : Sub) (clear : smallest (add_cases n sub (Found.At i) b) ≡ Verdict.Accepted) where
-      out : RuledOut (add_cases n sub (Found.At i) b)
-      out = ruled_out (add_cases n sub (Found.At i) b) clear
+    module _ (own : List ℕ) (n i : ℕ) (sub : Sub) (clear : smallest (add_cases n sub (Some i) b) ≡ Ok tt) where
+      out : RuledOut (add_cases n sub (Some i) b)
+      out = ruled_out (add_cases n sub (Some i) b) clear
 
       -- both are carried, and the other has neither filed nor been withdrawn
-      cases_alike : add_cases n sub (Found.At i) a ≡ add_cases n sub (Found.At i) b
+      cases_alike : add_cases n sub (Some i) a ≡ add_cases n sub (Some i) b
       unfolding add_cases area_cases
       cases_alike =
           let carried_a = fields_carried_lem a kept_a.subs.room kept_a.fields in
@@ -68,7 +69,7 @@ module _ (a b : Area) (e : view_of a ≡ unfiled b) where
           let count = count_alike in
           cc
 
-      pub added_clear : smallest (add_cases n sub (Found.At i) a) ≡ Verdict.Accepted
+      pub added_clear : smallest (add_cases n sub (Some i) a) ≡ Ok tt
       added_clear = ap smallest cases_alike ∙ clear
 
       -- one number more on both sides

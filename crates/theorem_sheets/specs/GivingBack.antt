@@ -1,5 +1,5 @@
 -- "Importing an export onto the book's accepted A entries alone must give those S entries back."
-use Rattle.std.specs.Prelude.{◌||◌, ◌≡◌}
+use Rattle.std.specs.Prelude.{◌||◌, ◌≡◌, Ok}
 use Rattle.laws.specs.{ℕ, Bool, true, false, List, map, keep}
 use Rattle.refusals.specs.{Verdict}
 use Rattle.line_entry.specs.{Act, AreaAct, Entry, Parsed}
@@ -48,7 +48,7 @@ imported book = import_onto (table_of book) (alone book) (export_of book)
 
 -- an act, as a line is read
 abbrev pub entry_on : AreaAct → Parsed
-entry_on on = Parsed.Taken (Entry.On on)
+entry_on on = Ok (Entry.On on)
 
 -- what the rows of a sheet are read as
 abbrev pub row_entries : List Row → List Parsed
@@ -57,7 +57,7 @@ row_entries rows = map (λ (row : Row). entry_of (row_line row)) rows
 pub record GivenBack (book : List ℕ) : Type 0 where
   -- the A entries alone are accepted, and so is the sheet
   pub opened : all_accepted (outcomes_from (table_of book) empty_holding (keep opens_area (acts_of book))) ≡ true
-  pub taken : (imported book).verdict ≡ Verdict.Accepted
+  pub taken : (imported book).verdict ≡ Ok tt
   -- its rows are exactly the accepted S entries, in order
   pub entries : row_entries (sheet_rows (export_of book)) ≡ map entry_on (keep adds_sub (acts_of book))
   -- and the holding is the one that the A and S entries reach, in the book's order

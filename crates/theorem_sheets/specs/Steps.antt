@@ -1,5 +1,5 @@
 -- An import as steps of demand 3, so that what demand 3 says of balances covers land that was imported.
-use Rattle.std.specs.Prelude.{◌≡◌, ◌∷◌, ◌++◌}
+use Rattle.std.specs.Prelude.{◌≡◌, ◌∷◌, ◌++◌, Ok}
 use Rattle.laws.specs.{ℕ, true, List, [], length, every}
 use Rattle.refusals.specs.{Verdict}
 use Rattle.line_entry.specs.{AreaAct}
@@ -27,8 +27,8 @@ import_steps own holding sheet = if_accepted (import_onto own holding sheet).ver
 -- for a participant's table, a holding and a sheet
 pub record ImportEntered (own : List ℕ) (holding : Holding) (sheet : List ℕ) : Type 0 where
   -- a sheet that is taken has one act for each row, and each is an S entry's
-  pub one_each : (import_onto own holding sheet).verdict ≡ Verdict.Accepted → length (sheet_acts sheet) ≡ length (sheet_rows sheet)
-  pub additions : (import_onto own holding sheet).verdict ≡ Verdict.Accepted → every adds_sub (sheet_acts sheet) ≡ true
+  pub one_each : (import_onto own holding sheet).verdict ≡ Ok tt → length (sheet_acts sheet) ≡ length (sheet_rows sheet)
+  pub additions : (import_onto own holding sheet).verdict ≡ Ok tt → every adds_sub (sheet_acts sheet) ≡ true
   -- the steps are accepted, each on the holding that the last left, and leave the holding of the import
   pub accepted : all_accepted (outcomes_from own holding (import_steps own holding sheet)) ≡ true
   pub left : (import_onto own holding sheet).holding ≡ holding_from own holding (import_steps own holding sheet)

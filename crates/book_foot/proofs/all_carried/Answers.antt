@@ -1,23 +1,20 @@
--- `book_foot::all_carried` meets its contract. The loop's invariant: what is carried so far and from here on makes the whole.
-use Rattle.laws.proofs.{◌≡◌, arith, length, rules}
-use Rattle.laws.proofs.Standing.{as_long}
-use Rattle.laws.proofs.Turns.{every_end, every_more}
-use Rattle.holding.specs.{most_areas}
+-- `book_foot::all_carried` meets its contract: the library's test of all is the definition's.
+use Rattle.std.proofs.lemmas.Iterator.{YieldsList-from_slice}
+use Rattle.std.proofs.lemmas.Iterator.Search.{all_from_yields_List}
+use borrow.Author.Tests.{tests}
+use Rattle.laws.proofs.{◌≡◌, ap, ◌∙◌, rules}
+use Rattle.laws.specs.{every, all_of}
+use Rattle.holding.specs.{areas_of}
+use Rattle.holding.proofs.Items.{all_is_every}
 use Rattle.statement_carried.specs.{fields_carried}
-use Rattle.book_foot.proofs.Carried.{too_many, all_judged}
+use Rattle.book_foot.specs.{all_carried}
 use Rattle.book_foot.proofs.all_carried.Goals as goal
 
-pub returns-then-holding-gt-MOST_AREAS : goal.returns-then-holding-gt-MOST_AREAS
-returns-then-holding-gt-MOST_AREAS c = too_many _ c.if-holding-gt-MOST_AREAS.true
-
-pub loop-i-preserved : goal.loop-i-preserved
-loop-i-preserved c =
-    let long : length c.args.holding.areas ≡ most_areas = search (rules, as_long) in
-    let holding = c.args.holding in
-    every_more fields_carried holding.areas holding.count c.loop-i.i c.loop-i.carried _ c.loop-i.invariant _ _ c.loop-i-test.true
-    (omega (arith, long)) c.fields-carried.ensures
-
 pub returns : goal.returns
+unfolding all_carried all_of
 returns c =
-    let holding = c.args.holding in
-    all_judged _ _ c.if-holding-gt-MOST_AREAS.false (every_end fields_carried holding.areas holding.count c.loop-i.i _ _ c.loop-i.invariant c.loop-i-test.false)
+    let carried : c.all-carried.result ≡ every fields_carried (areas_of c.args.holding) =
+    all_from_yields_List fields_carried _ _ c.all-carried.result c.all-carried.ensures.ran (YieldsList-from_slice _ cc) (λ x b q k. search (rules, tests))
+    ∙ all_is_every fields_carried _
+    ∙ ap (every fields_carried) c.standing.ensures in
+    simp carried

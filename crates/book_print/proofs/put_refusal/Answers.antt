@@ -9,7 +9,5 @@ use Rattle.book_print.proofs.put_refusal.Goals as goal
 pub returns : goal.returns
 unfolding refusal_text
 returns c =
-    let number = c in
-    let a = number.args in
-    put_few (refusal-few 19 a.line a.refusal (omega arith))
-    (put_as (ap (pair_text 88 a.line) number.number-number.ensures) c.put_pair.ensures)
+    let a = c.args in
+    put_few (refusal-few 19 a.line a.refusal (omega arith)) (put_as (ap (pair_text 88 a.line) c.from-number.ensures) c.put_pair.ensures)

@@ -13,8 +13,8 @@ returns-after-k-lt-MOST_AREAS-clause-areas_after c =
     let before = holding_of a.standing.now a.areas.now in
     let with : List Area → Holding = holding_of a.outcome.now.count in
     elim c.if-k-lt-MOST_AREAS.branch [
-      | then-k-lt-MOST_AREAS w ↦ ap with w.areas-is ∙ placed_here before a.outcome.now _ c.in-At.is
-      | else-k-lt-MOST_AREAS w ↦ ap with w.areas-is ∙ placed-out before a.outcome.now _ c.in-At.is (omega (arith, w.if-k-lt-MOST_AREAS.false, c.told-areas))
+      | then-k-lt-MOST_AREAS w ↦ ap with w.areas-is ∙ placed_here before a.outcome.now _ c.in-Some.is
+      | else-k-lt-MOST_AREAS w ↦ ap with w.areas-is ∙ placed-out before a.outcome.now _ c.in-Some.is (omega (arith, w.if-k-lt-MOST_AREAS.false, c.told-areas))
     ]
 
 pub returns-after-k-lt-MOST_AREAS-clause-numbers_after : goal.returns-after-k-lt-MOST_AREAS-clause-numbers_after

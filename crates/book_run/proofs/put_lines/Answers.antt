@@ -1,21 +1,20 @@
 -- `book_run::put_lines` meets its contract: a turn of the loop is a turn of the fold.
 use Rattle.laws.proofs.{◌-◌, ◌≤◌, ◌≡◌, refl, sym, ap, ◌∙◌, ⊎_elim, arith, rules, length, take, drop}
-use Rattle.laws.proofs.Standing.{as_long, map-set}
+use Rattle.laws.proofs.Standing.{as_long}
 use Rattle.text.specs.{greatest, line_end}
 use Rattle.text.proofs.Widths.{end_inside}
 use Rattle.text.proofs.Writes.{wrote_none, wrote_then, wrote_as, wrote-length}
-use Rattle.holding.specs.{Holding, most_areas, numbers_in}
+use Rattle.holding.specs.{Holding, most_areas}
 use Rattle.holding_look.specs.{area_at}
 use Rattle.holding_look.proofs.Laws.{area_here, area-out, area_nowhere}
-use Rattle.step_outcome.specs.{placed}
-use Rattle.step_outcome.proofs.Laws.{placed_here, placed-out, placed_nowhere, placed-long}
+use Rattle.step_outcome.proofs.Laws.{placed-long}
 use Rattle.book_listing.proofs.Folding.{lines_taken, run_line, left_line, run_none}
 use Rattle.book_reached.proofs.Bounds.{bounds, may}
 use Rattle.book_run.specs.{Part, RunOf}
 use Rattle.book_run.proofs.Following.{turn_prints, turn_runs}
 use Rattle.book_run.proofs.Runs.{carried, goes_on, stopped, printed_line, printed_none, runs}
 use Rattle.book_run.proofs.put_lines.Goals as goal
-use Rattle.book_run.proofs.put_lines.Goals.{in-At+then-k-lt-MOST_AREAS, in-At+else-k-lt-MOST_AREAS, in_default, in-At-place+then-k-lt-MOST_AREAS-2, in-At-place+else-k-lt-MOST_AREAS-2, in_default-place}
+use Rattle.book_run.proofs.put_lines.Goals.{in-Some+then-k-lt-MOST_AREAS, in-Some+else-k-lt-MOST_AREAS, in_default}
 
 pub loop-i-init : goal.loop-i-init
 loop-i-init c =
@@ -59,25 +58,14 @@ loop-i-preserved c =
     let none = c.empty_area-none.ensures in
     let looks : (c.match-found.found ≡ c.find-names.result.found) × (c.match-found.named ≡ area_at l.holding c.find-names.result.found) =
     elim c.match-found.branch [
-      | in-At+then-k-lt-MOST_AREAS w ↦
-          (w.found-is ∙ sym w.in-At.is, w.named-is ∙ area_here _ _ _ _ w.in-At.is (omega (arith, w.if-k-lt-MOST_AREAS.true, l.invariant.areas)))
-      | in-At+else-k-lt-MOST_AREAS w ↦
-          (w.found-is ∙ sym w.in-At.is, w.named-is ∙ none ∙ area-out _ _ _ w.in-At.is (omega (arith, w.if-k-lt-MOST_AREAS.false, l.invariant.areas)))
+      | in-Some+then-k-lt-MOST_AREAS w ↦
+          (w.found-is ∙ sym w.in-Some.is, w.named-is ∙ area_here _ _ _ _ w.in-Some.is (omega (arith, w.if-k-lt-MOST_AREAS.true, l.invariant.areas)))
+      | in-Some+else-k-lt-MOST_AREAS w ↦
+          (w.found-is ∙ sym w.in-Some.is, w.named-is ∙ none ∙ area-out _ _ _ w.in-Some.is (omega (arith, w.if-k-lt-MOST_AREAS.false, l.invariant.areas)))
       | in_default w ↦ (w.found-is, w.named-is ∙ none ∙ area_nowhere _ _ w.in_default.is)
     ] in
-    let stands : c.match-place.holding ≡ placed l.holding outcome =
-    elim c.match-place.branch [
-      | in-At-place+then-k-lt-MOST_AREAS-2 w ↦ w.holding-is ∙ placed_here _ _ _ w.in-At-place.is
-      | in-At-place+else-k-lt-MOST_AREAS-2 w ↦
-          w.holding-is ∙ placed-out _ _ _ w.in-At-place.is (omega (arith, w.if-k-lt-MOST_AREAS-2.false, l.invariant.areas))
-      | in_default-place w ↦ w.holding-is ∙ placed_nowhere _ _ w.in_default-place.is
-    ] in
-    let numbered : c.match-place.numbers ≡ numbers_in c.match-place.holding.areas =
-    elim c.match-place.branch [
-      | in-At-place+then-k-lt-MOST_AREAS-2 w ↦ simp (w.numbers-is, w.holding-is, map-set, l.invariant.numbers)
-      | in-At-place+else-k-lt-MOST_AREAS-2 w ↦ simp (w.numbers-is, w.holding-is, l.invariant.numbers)
-      | in_default-place w ↦ simp (w.numbers-is, w.holding-is, l.invariant.numbers)
-    ] in
+    let stands = c.place.ensures.areas_after in
+    let numbered = c.place.ensures.numbers_after in
     let area = looks.1 ∙ ap (area_at l.holding) (sym looks.0) in
     let six = c.schedule_six-default.ensures in
     let ran =

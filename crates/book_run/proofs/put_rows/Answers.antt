@@ -14,7 +14,7 @@ use Rattle.book_run.proofs.Exports.{Went, went_refused, went_column, went_act}
 use Rattle.book_run.proofs.Following.{turn_exports, turn_runs}
 use Rattle.book_run.proofs.Rows.{uncounted, holding_of, rows_alike, rows_over, lines_next, rows_line, rows_none}
 use Rattle.book_run.proofs.put_rows.Goals as goal
-use Rattle.book_run.proofs.put_rows.Goals.{in-Taken+in-Column, in-Taken+in-On, in_default}
+use Rattle.book_run.proofs.put_rows.Goals.{in-Ok+in-Column, in-Ok+in-On, in_default}
 
 pub returns-then-book-gt-LONGEST_BOOK : goal.returns-then-book-gt-LONGEST_BOOK
 returns-then-book-gt-LONGEST_BOOK c =
@@ -55,18 +55,18 @@ loop-i-preserved c =
     (holding_of m.standing m.areas) m.out m.at
     × (m.numbers ≡ numbers_in m.areas) =
     elim m.branch [
-      | in-Taken+in-Column w ↦
+      | in-Ok+in-Column w ↦
           let t = w.take_column.ensures in
           rw (w.table-is, w.count-is, w.standing-is, w.areas-is, w.out-is, w.at-is, w.numbers-is) (
             went_column l.table l.count l.invariant.fits l.invariant.table _ run.holding l.numbers line _ l.out l.at lent l.invariant.place _ _
-                w.in-Taken.is w.in-Column.is _ _ _ t.value t.table_after t.count_after,
+                w.in-Ok.is w.in-Column.is _ _ _ t.value t.table_after t.count_after,
             l.invariant.numbers,
           )
-      | in-Taken+in-On w ↦
+      | in-Ok+in-On w ↦
           let act = w.take_act-verdict.ensures in
           rw (w.table-is, w.count-is, w.standing-is, w.areas-is, w.out-is, w.at-is, w.numbers-is) (
             went_act l.table l.count l.invariant.fits l.invariant.table _ run.holding l.numbers line _ l.out l.at lent l.invariant.place
-                l.invariant.numbers _ _ w.in-Taken.is w.in-On.is _ act.value _ act.areas_after w.put_row-at.new.out w.put_row-at.result w.put_row-at.ensures,
+                l.invariant.numbers _ _ w.in-Ok.is w.in-On.is _ act.value _ act.areas_after w.put_row-at.new.out w.put_row-at.result w.put_row-at.ensures,
             act.numbers_after,
           )
       | in_default w ↦

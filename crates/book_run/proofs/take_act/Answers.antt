@@ -1,4 +1,5 @@
 -- `book_run::take_act` meets its contract: the area that it looks up is the one that the act names.
+use Rattle.std.specs.Prelude.{Ok}
 use Rattle.laws.proofs.{◌≡◌, refl, ap, ◌∙◌, arith}
 use Rattle.holding.specs.{Area}
 use Rattle.holding_look.specs.{Looked, area_at, looked_up}
@@ -6,10 +7,10 @@ use Rattle.holding_look.proofs.Laws.{area_here, area-out, area_nowhere}
 use Rattle.step_outcome.specs.{Outcome, placed}
 use Rattle.step.specs.{acted, applied}
 use Rattle.book_find.proofs.Naming.{looked_for_lem, looked_up_lem}
-use Rattle.line_entry.specs.{Entry, Parsed}
+use Rattle.line_entry.specs.{Entry}
 use Rattle.book_run.proofs.Rows.{holding_of}
 use Rattle.book_run.proofs.take_act.Goals as goal
-use Rattle.book_run.proofs.take_act.Goals.{in-At+then-k-lt-MOST_AREAS, in-At+else-k-lt-MOST_AREAS, in_default}
+use Rattle.book_run.proofs.take_act.Goals.{in-Some+then-k-lt-MOST_AREAS, in-Some+else-k-lt-MOST_AREAS, in_default}
 
 pub returns : goal.returns
 unfolding applied
@@ -20,15 +21,15 @@ returns c =
     let with : Area → Looked = λ area. record { number = names.number; count = a.standing.now; found = names.found; area = area } in
     let looks : c.match-found.looked ≡ with (area_at holding names.found) =
     elim c.match-found.branch [
-      | in-At+then-k-lt-MOST_AREAS w ↦
-          w.looked-is ∙ ap with (area_here holding _ _ _ w.in-At.is (omega (arith, w.if-k-lt-MOST_AREAS.true, c.told-areas)))
-      | in-At+else-k-lt-MOST_AREAS w ↦
-          w.looked-is ∙ ap with (c.empty_area.ensures ∙ area-out holding _ _ w.in-At.is (omega (arith, w.if-k-lt-MOST_AREAS.false, c.told-areas)))
+      | in-Some+then-k-lt-MOST_AREAS w ↦
+          w.looked-is ∙ ap with (area_here holding _ _ _ w.in-Some.is (omega (arith, w.if-k-lt-MOST_AREAS.true, c.told-areas)))
+      | in-Some+else-k-lt-MOST_AREAS w ↦
+          w.looked-is ∙ ap with (c.empty_area.ensures ∙ area-out holding _ _ w.in-Some.is (omega (arith, w.if-k-lt-MOST_AREAS.false, c.told-areas)))
       | in_default w ↦ w.looked-is ∙ ap with (c.empty_area.ensures ∙ area_nowhere holding _ w.in_default.is)
     ] in
     let named : c.match-found.looked ≡ looked_up holding a.on.area =
     looks
-    ∙ looked_for_lem holding a.numbers.now (Parsed.Taken (Entry.On a.on)) names _ _ c.find-names.ensures refl refl
+    ∙ looked_for_lem holding a.numbers.now (Ok (Entry.On a.on)) names _ _ c.find-names.ensures refl refl
     ∙ looked_up_lem holding a.numbers.now c.requires a.on in
     let comes : c.apply_to-outcome.result ≡ applied a.own.now a.default.now holding a.on =
     c.apply_to-outcome.ensures ∙ ap (λ (x : Looked). acted a.own.now a.default.now x a.on.act) named in

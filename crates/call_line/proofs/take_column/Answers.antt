@@ -1,6 +1,7 @@
 -- `call_line::take_column` meets its contract: a line that is refused as a T line decides, then bytes that are no numbers, and then the column of the
 -- cells that were read.
 use Rattle.laws.proofs.{ℕ, refl, sym, subst, ◌∙◌, take, replicate, arith}
+use Rattle.std.proofs.lemmas.Result.{err_from_is_err_and}
 use native.Mathlib.Nat.{sub-zero}
 use Rattle.line.proofs.Columns.{column_refused, column_entered}
 use Rattle.table_grow.specs.{line_cells}
@@ -14,51 +15,45 @@ use Rattle.call_line.proofs.take_column.Goals as goal
 pub slice_bounds-take_cells-end : goal.slice_bounds-take_cells-end
 unfolding line_cells
 slice_bounds-take_cells-end c =
-    let has_read : Room c.args.line.now (replicate 101 0) c.read_column-read.new.cells c.read_column-read.result =
+    let read : Room c.args.line.now (replicate 101 0) c.read_column-read.new.cells c.read_column-read.result =
     record { places = refl; told = c.read_column-read.ensures.value; left = c.read_column-read.ensures.cells_after } in
-    let told = c in
-    let read = has_read in
-    omega (arith, read-few read (sym (read-verdict read) ∙ told.in-Accepted.is))
+    omega (arith, read-few read (sym (read-verdict read) ∙ c.in_ok-read.was))
 
-pub returns-in-Refused : goal.returns-in-Refused
+pub returns-in_err-read : goal.returns-in_err-read
 unfolding line_cells
-returns-in-Refused c =
-    let has_read : Room c.args.line.now (replicate 101 0) c.read_column-read.new.cells c.read_column-read.result =
+returns-in_err-read c =
+    let read : Room c.args.line.now (replicate 101 0) c.read_column-read.new.cells c.read_column-read.result =
     record { places = refl; told = c.read_column-read.ensures.value; left = c.read_column-read.ensures.cells_after } in
-    let r = c in
-    let x = r in
-    let a = x.args in
-    gives_refused _ _ _ _
+    let a = c.args in
+    let told = err_from_is_err_and c.from_residual.result c.from_residual.ensures.1 in
+    rw (told.1, told.2)
+    (gives_refused _ _ _ _
     (line_decides a.statement.now a.table.now a.line.now _
-    (column_refused a.line.now _ x.requires (sym (read-verdict has_read) ∙ c.in-Refused.is)))
+    (column_refused a.line.now _ c.requires (sym (read-verdict read) ∙ c.in_err-read.was))))
 
-pub returns-in-Refused-own : goal.returns-in-Refused-own
+pub returns-in_err-count : goal.returns-in_err-count
 unfolding line_cells
-returns-in-Refused-own c =
-    let has_read : Room c.args.line.now (replicate 101 0) c.read_column-read.new.cells c.read_column-read.result =
+returns-in_err-count c =
+    let read : Room c.args.line.now (replicate 101 0) c.read_column-read.new.cells c.read_column-read.result =
     record { places = refl; told = c.read_column-read.ensures.value; left = c.read_column-read.ensures.cells_after } in
-    let t = c in
-    let told = t in
-    let r = told in
-    let a = r.args in
-    let clear = sym (read-verdict has_read) ∙ told.in-Accepted.is in
-    gives_refused _ _ _ _
+    let a = c.args in
+    let clear = sym (read-verdict read) ∙ c.in_ok-read.was in
+    let decoded = c.decode.ensures in
+    let told = err_from_is_err_and c.from_residual-in_err-count.result c.from_residual-in_err-count.ensures.1 in
+    rw (told.1, told.2)
+    (gives_refused _ _ _ _
     (table_decides a.statement.now a.table.now a.line.now _ (column_entered a.line.now clear) _
-    (table-refused a.table.now _ _ t.decode-own.ensures.value t.decode-own.ensures.out_after _ c.in-Refused-own.is))
+    (table-refused a.table.now _ _ decoded.value decoded.out_after _ c.in_err-count.was)))
 
-pub returns-in-Count : goal.returns-in-Count
+pub returns : goal.returns
 unfolding line_cells
-returns-in-Count c =
-    let has_read : Room c.args.line.now (replicate 101 0) c.read_column-read.new.cells c.read_column-read.result =
+returns c =
+    let read : Room c.args.line.now (replicate 101 0) c.read_column-read.new.cells c.read_column-read.result =
     record { places = refl; told = c.read_column-read.ensures.value; left = c.read_column-read.ensures.cells_after } in
-    let w = c in
-    let o = w in
-    let t = o in
-    let told = t in
-    let r = told in
-    let a = r.args in
-    let read = has_read in
-    let clear = sym (read-verdict read) ∙ told.in-Accepted.is in
-    let lent = table-lent a.table.now _ _ t.decode-own.ensures.value t.decode-own.ensures.out_after _ o.in-Count.is in
+    let a = c.args in
+    let clear = sym (read-verdict read) ∙ c.in_ok-read.was in
+    let decoded = c.decode.ensures in
+    let lent = table-lent a.table.now _ _ decoded.value decoded.out_after _ c.in_ok-count.was in
     call_column a.statement.now a.table.now a.line.now a.out.now clear _ _ _ _ _ (read_number read clear) (read-cells read clear)
-    (subst (λ (n : ℕ). Lent a.table.now (take n t.decode-own.new.out)) (sub-zero o.in-Count.count) lent) c.take_cells.ensures
+    (subst (λ (n : ℕ). Lent a.table.now (take n c.decode.new.out)) (sub-zero c.in_ok-count.count) lent)
+    (rw (sub-zero c.read_column-read.result.count) at c.take_cells.ensures)

@@ -1,7 +1,6 @@
 -- `call_output::write_changed` meets its contract: what is written besides the bytes that came is measured where there might be no room for it, and all
 -- of it is written where there is.
 use Rattle.laws.proofs.{sym, ◌∙◌}
-use Rattle.text.proofs.Writes.{wrote-length}
 use Rattle.call_output.proofs.Changed.{unmeasured, fits, short}
 use Rattle.call_output.proofs.write_changed.Goals as goal
 

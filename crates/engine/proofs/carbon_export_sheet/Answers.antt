@@ -1,4 +1,5 @@
 -- `engine::carbon_export_sheet` meets its contract: the answer is the export's, with its sign, and the output the export's.
+use Rattle.std.specs.Prelude.{Ok}
 use Rattle.laws.proofs.{ℕ, ◌<◌, ◌^◌, ◌≡◌, List, arith, length}
 use Rattle.refusals.specs.{Verdict}
 use Rattle.book_export.specs.{export_weighed, export_of}
@@ -7,7 +8,7 @@ use Rattle.engine.specs.{export_answer, export_output}
 use Rattle.engine.proofs.Answers.{answer_fits, answer_is_lem}
 use Rattle.engine.proofs.carbon_export_sheet.Goals as goal
 
-few : (book : List ℕ) → export_weighed book ≡ Verdict.Accepted → length (export_of book) < 2 ^ 63
+few : (book : List ℕ) → export_weighed book ≡ Ok tt → length (export_of book) < 2 ^ 63
 few book clear = omega (arith, export_few book clear)
 
 pub answered-requires : goal.answered-requires

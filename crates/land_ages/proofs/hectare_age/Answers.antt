@@ -2,10 +2,10 @@
 use Rattle.land_ages.specs.{hectare_age}
 use Rattle.land_ages.proofs.hectare_age.Goals as goal
 
-pub returns-then-same : goal.returns-then-same
+pub returns-then-is_of : goal.returns-then-is_of
 unfolding hectare_age
-returns-then-same c = simp (← c.same.ensures, c.if-same.true, c.greatest_age.ensures)
+returns-then-is_of c = simp (← c.is_of.ensures, c.if-is_of.true, c.from.ensures, c.greatest_age.ensures)
 
 pub returns : goal.returns
 unfolding hectare_age
-returns c = simp (← c.same.ensures, c.if-same.false, c.mean_age.ensures)
+returns c = simp (← c.is_of.ensures, c.if-is_of.false, c.mean_age.ensures)

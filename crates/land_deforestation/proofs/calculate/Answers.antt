@@ -1,24 +1,26 @@
 -- `land_deforestation::calculate` meets its contract, by the verdict.
-use Rattle.laws.proofs.{ℕ, sym, ap, ◌∙◌, List, take}
+use Rattle.std.specs.Prelude.{Ok, Err}
+use Rattle.laws.proofs.{ℕ, ◌≡◌, sym, ap, ◌∙◌, rules, List}
 use Rattle.refusals.specs.{Verdict}
 use Rattle.units.specs.{tonnes}
 use Rattle.units.proofs.Sums.{number}
 use Rattle.land_deforestation.specs.{total_of, answer_of, emissions_of, Emissions}
+use Rattle.land_deforestation.proofs.Taken.{few}
 use Rattle.land_deforestation.proofs.calculate.Goals as goal
 
-pub returns-in-Refused : goal.returns-in-Refused
+pub returns-in_err-judge : goal.returns-in_err-judge
 unfolding answer_of emissions_of
-returns-in-Refused c =
-    let j = c in
-    let a = j.args in
-    ap (λ (v : Verdict). answer_of v (take a.count a.parcels)) (sym c.in-Refused.is ∙ j.judge-verdict.ensures)
+returns-in_err-judge c =
+    let e : c.from_residual.result ≡ Err c.in_err-judge.field-0.0 = search rules in
+    e ∙ ap (λ (v : Verdict). answer_of v c.args.parcels.now) (sym c.in_err-judge.was ∙ c.judge.ensures)
+
+pub total-requires : goal.total-requires
+total-requires c = few _ _ (sym c.judge.ensures ∙ c.in_ok-judge.was)
 
 pub returns : goal.returns
 unfolding answer_of emissions_of
 returns c =
-    let s = c in
-    let j = s in
-    let a = j.args in
-    let ps = take a.count a.parcels in
-    let kg = ap number (c.total-sum.ensures ∙ ap (λ (cells : List ℕ). total_of cells ps) s.schedule_four-cells.ensures) in
-    ap Emissions.Tonnes (c.to_tonnes.ensures ∙ ap tonnes kg) ∙ ap (λ (v : Verdict). answer_of v ps) (sym s.in_default.is ∙ j.judge-verdict.ensures)
+    let ps = c.args.parcels.now in
+    let kg = ap number (c.total.ensures ∙ ap (λ (cells : List ℕ). total_of cells ps) c.schedule_four-cells.ensures) in
+    let told : ◌≡◌ {A = Emissions} (Ok c.to_tonnes.result) (answer_of (Ok tt) ps) = ap (λ (n : ℕ). Ok n) (c.to_tonnes.ensures ∙ ap tonnes kg) in
+    told ∙ ap (λ (v : Verdict). answer_of v ps) (sym c.in_ok-judge.was ∙ c.judge.ensures)

@@ -6,4 +6,4 @@ pub returns : goal.returns
 unfolding emitted_of
 returns c =
     let b = c in
-    (simp (c.trees.ensures.0, c.rounded-land.ensures, b.rate_four-rate.ensures, b.age.ensures, b.counted-counted.ensures), c.trees.ensures.1)
+    (simp (c.trees.ensures.0, c.rounded.ensures, b.rate_four-rate.ensures, b.age.ensures, b.counted-counted.ensures), c.trees.ensures.1)

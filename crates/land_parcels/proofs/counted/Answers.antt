@@ -4,4 +4,4 @@ use Rattle.land_parcels.proofs.counted.Goals as goal
 
 pub returns : goal.returns
 unfolding counted_of
-returns c = simp (c.counting.ensures, c.own_clearing.ensures)
+returns c = simp (c.counting.ensures, c.own_clearing.ensures, c.earlier.ensures)

@@ -6,4 +6,4 @@ pub returns : goal.returns
 unfolding faults_of
 returns c =
     let b = c in
-    simp (b.age-age.ensures, b.counted.ensures, b.find_amiss-amiss.ensures, b.own_clearing.ensures)
+    simp (b.age-age.ensures, b.counted.ensures, b.find_amiss-amiss.ensures, b.own_clearing.ensures, b.earlier.ensures)

@@ -1,23 +1,23 @@
--- `land_trees::determine` meets its contract: what is gathered once the loop is left answers for the whole list.
-use Rattle.laws.proofs.{◌+◌, ◌≡◌, sym, ◌∙◌, subst, arith, length, ℕ}
-use Rattle.land_predominance.specs.{no_group}
-use Rattle.land_trees.specs.{Gathered}
-use Rattle.land_trees.proofs.Gathering.{Going, going_start, going_more, going_end}
+-- `land_trees::determine` meets its contract, by the verdict: a clear one leaves few groups, and an age of at most 300.
+use Rattle.std.specs.Prelude.{Err}
+use Rattle.laws.proofs.{◌≡◌, sym, ap, ◌∙◌, arith, rules}
+use Rattle.refusals.specs.{Verdict}
+use Rattle.land_trees.specs.{answer_of, held_of, hectare_of}
+use Rattle.land_trees.proofs.Determined.{few, age_at_most, when_clear}
 use Rattle.land_trees.proofs.determine.Goals as goal
 
-pub loop-i-init : goal.loop-i-init
-loop-i-init c = (subst (λ (f : Gathered). Going c.args.groups.now 0 f) (sym c.none_gathered-found.ensures) (going_start c.args.groups.now), omega arith)
+pub returns-in_err-judge : goal.returns-in_err-judge
+unfolding answer_of held_of hectare_of
+returns-in_err-judge c =
+    let e : c.from_residual.result ≡ Err c.in_err-judge.field-0.0 = search rules in
+    e ∙ ap (λ (v : Verdict). answer_of v c.args.groups.now) (sym c.in_err-judge.was ∙ c.judge.ensures)
 
-pub loop-i-preserved : goal.loop-i-preserved
-loop-i-preserved c =
-    let l = c.loop-i in
-    let gs = c.args.groups.now in
-    let more = going_more gs l.i l.found no_group (omega arith) l.invariant.0 in
-    (subst (λ (f : Gathered). Going gs (l.i + 1) f) (sym c.gather-found.ensures) more, omega arith)
+pub invariant_of-groups : goal.invariant_of-groups
+invariant_of-groups c = record { few = few _ (sym c.in_ok-judge.was ∙ c.judge.ensures) }
+
+pub overflow_cast-age : goal.overflow_cast-age
+overflow_cast-age c =
+    omega (arith, age_at_most _ (sym c.in_ok-judge.was ∙ c.judge.ensures) _ _ c.predominant-leader.ensures c.hectare_age-age.ensures)
 
 pub returns : goal.returns
-returns c =
-    let l = c.loop-i in
-    let gs = c.args.groups.now in
-    let e : l.i ≡ length gs = omega arith in
-    c.type_and_age.ensures ∙ going_end gs l.found (subst (λ (k : ℕ). Going gs k l.found) e l.invariant.0)
+returns c = when_clear _ (sym c.in_ok-judge.was ∙ c.judge.ensures) _ _ c.predominant-leader.ensures c.hectare_age-age.ensures

@@ -1,12 +1,13 @@
 -- `line_area::file_entry` meets its contract, by the verdict on its area and year.
+use Rattle.std.proofs.lemmas.Result.{err_from_is_err_and}
 use Rattle.line_entry.specs.{file_rule, Act}
 use Rattle.line_area.proofs.Laws.{year_turned, year_taken}
 use Rattle.line_area.proofs.file_entry.Goals as goal
 
-pub returns-in-Refused : goal.returns-in-Refused
+pub returns-in_err-read : goal.returns-in_err-read
 unfolding file_rule
-returns-in-Refused c = year_turned _ _ _ c.area_and_year-read.ensures _ _ c.in-Refused.is
+returns-in_err-read c = let p = err_from_is_err_and c.from_residual.result c.from_residual.ensures.1 in rw (p.1, p.2) (year_turned _ _ _ c.area_and_year-read.ensures _ _ c.in_err-read.was)
 
-pub returns-in-Accepted : goal.returns-in-Accepted
+pub returns : goal.returns
 unfolding file_rule
-returns-in-Accepted c = year_taken _ _ _ c.area_and_year-read.ensures Act.File c.in-Accepted.is
+returns c = year_taken _ _ _ c.area_and_year-read.ensures Act.File c.in_ok-read.was

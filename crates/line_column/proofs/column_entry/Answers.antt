@@ -1,4 +1,5 @@
 -- `line_column::column_entry` meets its contract, by the verdict of the line's fields.
+use Rattle.std.proofs.lemmas.Result.{err_from_is_err_and}
 use Rattle.laws.proofs.{ap}
 use Rattle.line_entry.specs.{Entry}
 use Rattle.line_entry.proofs.Laws.{turned, taken}
@@ -8,10 +9,10 @@ use Rattle.line_column.proofs.column_entry.Goals as goal
 pub judge-judged-requires : goal.judge-judged-requires
 judge-judged-requires c = c.scan-places.ensures
 
-pub returns-in-Refused : goal.returns-in-Refused
+pub returns-in_err-judged : goal.returns-in_err-judged
 unfolding column_rule
-returns-in-Refused c = turned _ _ _ _ c.judge-judged.ensures.verdict_value.0 c.in-Refused.is
+returns-in_err-judged c = let p = err_from_is_err_and c.from_residual.result c.from_residual.ensures.1 in rw (p.1, p.2) (turned _ _ _ _ c.judge-judged.ensures.verdict_value.0 c.in_err-judged.was)
 
-pub returns-in-Accepted : goal.returns-in-Accepted
+pub returns : goal.returns
 unfolding column_rule
-returns-in-Accepted c = let j = c.judge-judged.ensures.verdict_value in taken _ _ _ _ j.0 c.in-Accepted.is (ap Entry.Column j.1)
+returns c = let j = c.judge-judged.ensures.verdict_value in taken _ _ _ _ j.0 c.in_ok-judged.was (ap Entry.Column j.1)

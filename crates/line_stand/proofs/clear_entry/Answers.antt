@@ -1,4 +1,5 @@
 -- `line_stand::clear_entry` meets its contract: the verdict, case by case, is the rule's, and a clear one bounds the numbers.
+use Rattle.std.proofs.lemmas.Result.{err_from_is_err_and}
 use Rattle.laws.proofs.{◌≡◌, sym, ◌∙◌, lit<, lit≤}
 use Rattle.text.specs.{split}
 use Rattle.text_field.proofs.Laws.{count-found, field_found}
@@ -28,17 +29,17 @@ verdict w =
       number-found _ _ 3 _ scanned (lit< tt) w.number_at-year.ensures,
     )
 
-pub returns-in-Refused : goal.returns-in-Refused
+pub returns-in_err-v : goal.returns-in_err-v
 unfolding clear_rule
-returns-in-Refused c = turned _ _ _ _ (verdict (goal.at.returns-in-Refused c).After-weigh_year-v) c.in-Refused.is
+returns-in_err-v c = let p = err_from_is_err_and c.from_residual.result c.from_residual.ensures.1 in rw (p.1, p.2) (turned _ _ _ _ (verdict (goal.at.returns-in_err-v c).After-weigh_year-v) c.in_err-v.was)
 
-pub returns-in-Accepted : goal.returns-in-Accepted
+pub returns : goal.returns
 unfolding clear_rule
-returns-in-Accepted c =
+returns c =
     let scanned = c.scan-places.ensures in
-    let clear = c.in-Accepted.is in
-    let none = ruled_out _ (sym (verdict (goal.at.returns-in-Accepted c).After-weigh_year-v) ∙ clear) in
+    let clear = c.in_ok-v.was in
+    let none = ruled_out _ (sym (verdict (goal.at.returns c).After-weigh_year-v) ∙ clear) in
     let area = value_found 1 999 65535 _ _ _ c.value_u16.ensures (number-found _ _ 1 _ scanned (lit< tt) c.number_at-area.ensures) (lit≤ tt) (none 4) in
-    let sub = value_found 1 99 65535 _ _ _ c.value_u16-in-Accepted.ensures (number-found _ _ 2 _ scanned (lit< tt) c.number_at-sub.ensures) (lit≤ tt) (none 5) in
-    let year = value_found 2008 2199 65535 _ _ _ c.value_u16-in-Accepted-2.ensures (number-found _ _ 3 _ scanned (lit< tt) c.number_at-year.ensures) (lit≤ tt) (none 6) in
-    taken _ _ _ _ (verdict (goal.at.returns-in-Accepted c).After-weigh_year-v) clear (simp (area, sub, year))
+    let sub = value_found 1 99 65535 _ _ _ c.value_u16-2.ensures (number-found _ _ 2 _ scanned (lit< tt) c.number_at-sub.ensures) (lit≤ tt) (none 5) in
+    let year = value_found 2008 2199 65535 _ _ _ c.value_u16-3.ensures (number-found _ _ 3 _ scanned (lit< tt) c.number_at-year.ensures) (lit≤ tt) (none 6) in
+    taken _ _ _ _ (verdict (goal.at.returns c).After-weigh_year-v) clear (simp (area, sub, year))

@@ -1,4 +1,5 @@
 -- `line_sub::add_entry` meets its contract: the verdict, case by case, is the rule's, and a clear one bounds the numbers.
+use Rattle.std.proofs.lemmas.Result.{err_from_is_err_and}
 use Rattle.laws.proofs.{◌≡◌, sym, ap, ◌∙◌, lit<, lit≤}
 use Rattle.units.specs.{tenths_of}
 use Rattle.forest.specs.{named}
@@ -39,21 +40,21 @@ verdict w =
       number-found _ _ 5 _ scanned (lit< tt) w.number_at-planted.ensures,
     )
 
-pub returns-in-Refused : goal.returns-in-Refused
+pub returns-in_err-v : goal.returns-in_err-v
 unfolding add_rule
-returns-in-Refused c = turned _ _ _ _ (verdict (goal.at.returns-in-Refused c).After-weigh-v-3) c.in-Refused.is
+returns-in_err-v c = let p = err_from_is_err_and c.from_residual.result c.from_residual.ensures.1 in rw (p.1, p.2) (turned _ _ _ _ (verdict (goal.at.returns-in_err-v c).After-weigh-v-3) c.in_err-v.was)
 
-pub returns-in-Accepted : goal.returns-in-Accepted
+pub returns : goal.returns
 unfolding add_rule
-returns-in-Accepted c =
+returns c =
     let scanned = c.scan-places.ensures in
-    let clear = c.in-Accepted.is in
-    let none = ruled_out _ (sym (verdict (goal.at.returns-in-Accepted c).After-weigh-v-3) ∙ clear) in
+    let clear = c.in_ok-v.was in
+    let none = ruled_out _ (sym (verdict (goal.at.returns c).After-weigh-v-3) ∙ clear) in
     let area = value_found 1 999 65535 _ _ _ c.value_u16.ensures (number-found _ _ 1 _ scanned (lit< tt) c.number_at-area.ensures) (lit≤ tt) (none 5) in
-    let sub = value_found 1 99 65535 _ _ _ c.value_u16-in-Accepted.ensures (number-found _ _ 2 _ scanned (lit< tt) c.number_at-sub.ensures) (lit≤ tt) (none 6) in
+    let sub = value_found 1 99 65535 _ _ _ c.value_u16-2.ensures (number-found _ _ 2 _ scanned (lit< tt) c.number_at-sub.ensures) (lit≤ tt) (none 6) in
     let hectares =
     value_found 10000 100000000 4294967295 _ _ _ c.value_u32.ensures
     (found hectares_in _ _ 3 _ scanned (lit< tt) (c.hectares-hectares.ensures ∙ ap hectares_in c.field.ensures)) (lit≤ tt) (none 8) in
     let type = found named _ _ 4 _ scanned (lit< tt) (c.read-named.ensures ∙ ap named c.field-2.ensures) in
-    let planted = planted-found (type_at (split c.args.line.now) 4) _ _ _ c.value_u16-in-Accepted-2.ensures (number-found _ _ 5 _ scanned (lit< tt) c.number_at-planted.ensures) (none 9) in
-    taken _ _ _ _ (verdict (goal.at.returns-in-Accepted c).After-weigh-v-3) clear (simp (area, sub, c.rounded.ensures ∙ ap tenths_of hectares, c.forest_of.ensures, type, planted))
+    let planted = planted-found (type_at (split c.args.line.now) 4) _ _ _ c.value_u16-3.ensures (number-found _ _ 5 _ scanned (lit< tt) c.number_at-planted.ensures) (none 9) in
+    taken _ _ _ _ (verdict (goal.at.returns c).After-weigh-v-3) clear (simp (area, sub, c.rounded.ensures ∙ ap tenths_of hectares, c.forest_of.ensures, type, planted))

@@ -1,14 +1,15 @@
 -- `sheet_import::import` meets its contract. Four loops: the areas are read and judged, the rows taken, and the new statement measured and written.
-use Rattle.laws.proofs.{ℕ, ◌+◌, ◌-◌, ◌*◌, ◌<◌, ◌≤◌, ◌≡◌, refl, sym, ap, ◌∙◌, List, arith, length, take, drop, length-map}
+use Rattle.std.specs.Prelude.{Ok, Err}
+use Rattle.laws.proofs.{ℕ, ◌+◌, ◌-◌, ◌<◌, ◌≡◌, refl, sym, ap, ◌∙◌, List, arith, length, drop}
 use Rattle.laws.proofs.Standing.{map-set}
-use Rattle.refusals.specs.{Refusal, Verdict}
-use Rattle.line_entry.specs.{Parsed, refused_by}
+use Rattle.refusals.specs.{Refusal}
+use Rattle.std.proofs.lemmas.Result.{err_from_is_err_and}
 use Rattle.holding.specs.{Area, Holding, most_areas, numbers_in}
 use Rattle.holding_look.specs.{Looked, area_at}
 use Rattle.holding_look.proofs.Laws.{area_here, area-out, area_nowhere}
 use Rattle.step_outcome.specs.{Outcome, placed}
 use Rattle.step_outcome.proofs.Laws.{placed_here, placed-out, placed_nowhere, placed-long}
-use Rattle.statement_cursor.specs.{NumberField, number_at, start_at}
+use Rattle.statement_cursor.specs.{number_at, start_at}
 use Rattle.statement_format.specs.{texts, area_text, area_width}
 use Rattle.statement_field.proofs.Puts.{put_none}
 use Rattle.statement_field.proofs.Texts.{put_next}
@@ -23,9 +24,9 @@ use Rattle.sheet_import.proofs.Rows.{row_outcome, read-refused, read_column, out
 use Rattle.sheet_import.proofs.Sheets.{sheet_refused, sheet_taken}
 use Rattle.sheet_import.proofs.Standing.{standing}
 use Rattle.sheet_import.proofs.Reading as reading
-use Rattle.sheet_import.proofs.Onto.{onto_turned, onto_verdict_lem, onto_bytes_lem, within, all_put}
+use Rattle.sheet_import.proofs.Onto.{onto_turned, onto_verdict_lem, onto_bytes_lem, all_put}
 use Rattle.sheet_import.proofs.import.Goals as goal
-use Rattle.sheet_import.proofs.import.Goals.{After-number-head, Else-not-next-statement, Joined-found, After-apply_to-outcome, After-loop-at, in-At+then-k-lt-MOST_AREAS, in-At+else-k-lt-MOST_AREAS, in_default-found}
+use Rattle.sheet_import.proofs.import.Goals.{After-number-head, Else-not-next-statement, Joined-found, After-apply_to-outcome, After-loop-at, in-Some+then-k-lt-MOST_AREAS, in-Some+else-k-lt-MOST_AREAS, in_default}
 
 -- ---- the areas are read and judged
 
@@ -50,19 +51,21 @@ returns-then-not-next-statement c =
     (reading.read-turned a.statement.now _ (head_is (goal.at.returns-then-not-next-statement c).After-number-head) _ _ _ _ _ c.loop-i.invariant c.loop-i-test.false
     (omega (arith, c.number-head.ensures.value_le_most)) _ c.numbers-apart.ensures c.if-not-next-statement.true))
 
-reads : (e : Else-not-next-statement) → read_of e.args.statement.now ≡ record { verdict = Verdict.Accepted; holding = standing e.number-head.result.value e.loop-i.areas }
+reads : (e : Else-not-next-statement) → read_of e.args.statement.now ≡ record { verdict = (Ok tt); holding = standing e.number-head.result.value e.loop-i.areas }
 reads e =
     let head : e.number-head.result ≡ number_at e.args.statement.now (start_at e.args.statement.now 0 72) 10 most_areas =
     e.number-head.ensures.value ∙ ap (λ p. number_at e.args.statement.now p 10 most_areas) e.start-start.ensures in
     reading.read_clear e.args.statement.now _ head _ _ _ _ _ e.loop-i.invariant e.loop-i-test.false
     (omega (arith, e.number-head.ensures.value_le_most)) _ e.numbers-apart.ensures e.if-not-next-statement.false
 
-pub returns-in-Refused : goal.returns-in-Refused
-returns-in-Refused c =
+pub returns-in_err-judge : goal.returns-in_err-judge
+returns-in_err-judge c =
     let a = c.args in
-    gives_refused _ _ _ _
-    (onto_verdict_lem a.own.now a.statement.now a.sheet.now _ (reads (goal.at.returns-in-Refused c).Else-not-next-statement) _
-    (sheet_refused a.own.now _ a.sheet.now _ c.judge-sheet_verdict.ensures _ c.in-Refused.is))
+    let told = err_from_is_err_and c.from_residual.result c.from_residual.ensures.1 in
+    rw (told.1, told.2)
+    (gives_refused _ _ _ _
+    (onto_verdict_lem a.own.now a.statement.now a.sheet.now _ (reads (goal.at.returns-in_err-judge c).Else-not-next-statement) _
+    (sheet_refused a.own.now _ a.sheet.now _ c.judge.ensures _ c.in_err-judge.was)))
 
 -- ---- the rows are taken
 
@@ -76,12 +79,12 @@ looks : (m : Joined-found) → m.match-found.looked ≡ record {
 looks m =
     let with : Area → Looked = λ a. record { number = m.find-names.result.number; count = m.loop-at.count; found = m.find-names.result.found; area = a } in
     elim m.match-found.branch [
-      | in-At+then-k-lt-MOST_AREAS w ↦
-          w.looked-is ∙ ap with (area_here _ _ _ _ w.in-At.is (omega (arith, w.if-k-lt-MOST_AREAS.true, m.loop-at.invariant.0)))
-      | in-At+else-k-lt-MOST_AREAS w ↦
+      | in-Some+then-k-lt-MOST_AREAS w ↦
+          w.looked-is ∙ ap with (area_here _ _ _ _ w.in-Some.is (omega (arith, w.if-k-lt-MOST_AREAS.true, m.loop-at.invariant.0)))
+      | in-Some+else-k-lt-MOST_AREAS w ↦
           w.looked-is
-          ∙ ap with (m.empty_area-looked.ensures ∙ area-out _ _ _ w.in-At.is (omega (arith, w.if-k-lt-MOST_AREAS.false, m.loop-at.invariant.0)))
-      | in_default-found w ↦ w.looked-is ∙ ap with (m.empty_area-looked.ensures ∙ area_nowhere _ _ w.in_default-found.is)
+          ∙ ap with (m.empty_area-looked.ensures ∙ area-out _ _ _ w.in-Some.is (omega (arith, w.if-k-lt-MOST_AREAS.false, m.loop-at.invariant.0)))
+      | in_default w ↦ w.looked-is ∙ ap with (m.empty_area-looked.ensures ∙ area_nowhere _ _ w.in_default.is)
     ]
 
 -- what a row comes to, by what it was read as and the area looked up
@@ -101,15 +104,15 @@ comes-to : (m : Joined-found) (imported : Imported)
     (rows_of (drop m.read_row-heading.result.next m.args.sheet.now))
     → imported ≡ import_onto m.args.own.now (standing m.number-head.result.value m.loop-i.areas) m.args.sheet.now
 comes-to m imported i =
-    sheet_taken m.args.own.now (standing m.number-head.result.value m.loop-i.areas) m.args.sheet.now _ m.judge-sheet_verdict.ensures m.in_default.is _ imported
+    sheet_taken m.args.own.now (standing m.number-head.result.value m.loop-i.areas) m.args.sheet.now _ m.judge.ensures m.in_ok-judge.was _ imported
     m.read_row-heading.ensures.next i
 
 -- a row that is turned down turns the sheet down
 turned_down : (m : Joined-found) (outcome : Outcome) (refusal : Refusal)
-    → read_of m.args.statement.now ≡ record { verdict = Verdict.Accepted; holding = standing m.number-head.result.value m.loop-i.areas }
+    → read_of m.args.statement.now ≡ record { verdict = (Ok tt); holding = standing m.number-head.result.value m.loop-i.areas }
     → outcome ≡ line_taken m.args.own.now (standing m.loop-at.count m.loop-at.areas) (line_at m.args.sheet.now m.loop-at.at)
-    → outcome.verdict ≡ Verdict.Refused refusal
-    → onto_verdict m.args.own.now m.args.statement.now m.args.sheet.now ≡ Verdict.Refused refusal
+    → outcome.verdict ≡ Err refusal
+    → onto_verdict m.args.own.now m.args.statement.now m.args.sheet.now ≡ Err refusal
 turned_down m outcome refusal read o v =
     let a = m.args in
     let rows =
@@ -118,27 +121,28 @@ turned_down m outcome refusal read o v =
     ∙ m.loop-at.invariant.2 in
     onto_verdict_lem a.own.now a.statement.now a.sheet.now (standing m.number-head.result.value m.loop-i.areas) read _ (comes-to m _ rows)
 
-pub returns-in_default-parsed : goal.returns-in_default-parsed
-returns-in_default-parsed c =
-    let m = (goal.at.returns-in_default-parsed c).Joined-found in
-    let read = c.in_default-parsed.is in
-    let given =
-    gives_refused _ _ _ _
-    (turned_down m _ _ (reads (goal.at.returns-in_default-parsed c).Else-not-next-statement) (comes_by m _ refl) (read-refused _ _ _ _ _ read)) in
-    record { told = c.refused_by.ensures ∙ ap refused_by read ∙ given.told; left = given.left }
+pub returns-in_err-on : goal.returns-in_err-on
+returns-in_err-on c =
+    let m = (goal.at.returns-in_err-on c).Joined-found in
+    let told = err_from_is_err_and c.from_residual-in_err-on.result c.from_residual-in_err-on.ensures.1 in
+    rw (told.1, told.2)
+    (gives_refused _ _ _ _
+    (turned_down m _ _ (reads (goal.at.returns-in_err-on c).Else-not-next-statement) (comes_by m _ refl) (read-refused _ _ _ _ _ c.in_err-on.was)))
 
-pub returns-in_default-entry : goal.returns-in_default-entry
-returns-in_default-entry c =
-    let m = (goal.at.returns-in_default-entry c).Joined-found in
-    let read = c.in-Taken.is ∙ ap Parsed.Taken c.in_default-entry.is in
+pub returns-in_default-2 : goal.returns-in_default-2
+returns-in_default-2 c =
+    let m = (goal.at.returns-in_default-2 c).Joined-found in
+    let read = c.in_ok-on.was ∙ ap Ok c.in_default-2.is in
     gives_refused _ _ _ _
-    (turned_down m _ _ (reads (goal.at.returns-in_default-entry c).Else-not-next-statement) (comes_by m _ refl) (read_column _ _ _ _ _ read))
+    (turned_down m _ _ (reads (goal.at.returns-in_default-2 c).Else-not-next-statement) (comes_by m _ refl) (read_column _ _ _ _ _ read))
 
-pub returns-in-Refused-verdict : goal.returns-in-Refused-verdict
-returns-in-Refused-verdict c =
-    let m = (goal.at.returns-in-Refused-verdict c).Joined-found in
-    let outcome = comes_by m _ (c.apply_to-outcome.ensures ∙ sym (ap (row_outcome _ _ _) (c.in-Taken.is ∙ ap Parsed.Taken c.in-On.is))) in
-    gives_refused _ _ _ _ (turned_down m _ _ (reads (goal.at.returns-in-Refused-verdict c).Else-not-next-statement) outcome c.in-Refused-verdict.is)
+pub returns-in_err-outcome : goal.returns-in_err-outcome
+returns-in_err-outcome c =
+    let m = (goal.at.returns-in_err-outcome c).Joined-found in
+    let outcome = comes_by m _ (c.apply_to-outcome.ensures ∙ sym (ap (row_outcome _ _ _) (c.in_ok-on.was ∙ ap Ok c.in-On.is))) in
+    let told = err_from_is_err_and c.from_residual-in_err-outcome.result c.from_residual-in_err-outcome.ensures.1 in
+    rw (told.1, told.2)
+    (gives_refused _ _ _ _ (turned_down m _ _ (reads (goal.at.returns-in_err-outcome c).Else-not-next-statement) outcome c.in_err-outcome.was))
 
 -- a row that is accepted: fewer bytes are left
 less : (t : After-apply_to-outcome) → length t.args.sheet.now - t.read_row-row.result.next < length t.args.sheet.now - t.loop-at.at
@@ -148,7 +152,7 @@ less t =
 -- the rows behind it, on the holding that it leaves
 again : (m : Joined-found) (outcome : Outcome)
     → outcome ≡ line_taken m.args.own.now (standing m.loop-at.count m.loop-at.areas) (line_at m.args.sheet.now m.loop-at.at)
-    → outcome.verdict ≡ Verdict.Accepted
+    → outcome.verdict ≡ Ok tt
     → (holding : Holding) (numbers : List ℕ) → holding ≡ placed (standing m.loop-at.count m.loop-at.areas) outcome → numbers ≡ numbers_in holding.areas
     → (length holding.areas ≡ most_areas) × (numbers ≡ numbers_in holding.areas)
     × (import_rows m.args.own.now (standing m.number-head.result.value m.loop-i.areas) holding (rows_of (drop m.read_row-row.result.next m.args.sheet.now))
@@ -171,8 +175,8 @@ loop-at-smaller-then-k-lt-MOST_AREAS-2 c = less (goal.at.loop-at-smaller-then-k-
 pub loop-at-preserved-then-k-lt-MOST_AREAS-2 : goal.loop-at-preserved-then-k-lt-MOST_AREAS-2
 loop-at-preserved-then-k-lt-MOST_AREAS-2 c =
     let m = (goal.at.loop-at-preserved-then-k-lt-MOST_AREAS-2 c).Joined-found in
-    let comes = comes_by m _ (c.apply_to-outcome.ensures ∙ sym (ap (row_outcome _ _ _) (c.in-Taken.is ∙ ap Parsed.Taken c.in-On.is))) in
-    again m _ comes c.in_default-verdict.is _ _ (placed_here _ _ _ c.in-At-place.is) (simp (map-set, c.loop-at.invariant.1))
+    let comes = comes_by m _ (c.apply_to-outcome.ensures ∙ sym (ap (row_outcome _ _ _) (c.in_ok-on.was ∙ ap Ok c.in-On.is))) in
+    again m _ comes c.in_ok-outcome.was _ _ (placed_here _ _ _ c.in-Some-place.is) (simp (map-set, c.loop-at.invariant.1))
 
 pub loop-at-smaller-else-k-lt-MOST_AREAS-2 : goal.loop-at-smaller-else-k-lt-MOST_AREAS-2
 loop-at-smaller-else-k-lt-MOST_AREAS-2 c = less (goal.at.loop-at-smaller-else-k-lt-MOST_AREAS-2 c).After-apply_to-outcome
@@ -180,9 +184,9 @@ loop-at-smaller-else-k-lt-MOST_AREAS-2 c = less (goal.at.loop-at-smaller-else-k-
 pub loop-at-preserved-else-k-lt-MOST_AREAS-2 : goal.loop-at-preserved-else-k-lt-MOST_AREAS-2
 loop-at-preserved-else-k-lt-MOST_AREAS-2 c =
     let m = (goal.at.loop-at-preserved-else-k-lt-MOST_AREAS-2 c).Joined-found in
-    let comes = comes_by m _ (c.apply_to-outcome.ensures ∙ sym (ap (row_outcome _ _ _) (c.in-Taken.is ∙ ap Parsed.Taken c.in-On.is))) in
-    again m _ comes c.in_default-verdict.is _ _
-    (placed-out _ _ _ c.in-At-place.is (omega (arith, c.if-k-lt-MOST_AREAS-2.false, c.loop-at.invariant.0))) c.loop-at.invariant.1
+    let comes = comes_by m _ (c.apply_to-outcome.ensures ∙ sym (ap (row_outcome _ _ _) (c.in_ok-on.was ∙ ap Ok c.in-On.is))) in
+    again m _ comes c.in_ok-outcome.was _ _
+    (placed-out _ _ _ c.in-Some-place.is (omega (arith, c.if-k-lt-MOST_AREAS-2.false, c.loop-at.invariant.0))) c.loop-at.invariant.1
 
 pub loop-at-smaller : goal.loop-at-smaller
 loop-at-smaller c = less (goal.at.loop-at-smaller c).After-apply_to-outcome
@@ -190,20 +194,20 @@ loop-at-smaller c = less (goal.at.loop-at-smaller c).After-apply_to-outcome
 pub loop-at-preserved : goal.loop-at-preserved
 loop-at-preserved c =
     let m = (goal.at.loop-at-preserved c).Joined-found in
-    let comes = comes_by m _ (c.apply_to-outcome.ensures ∙ sym (ap (row_outcome _ _ _) (c.in-Taken.is ∙ ap Parsed.Taken c.in-On.is))) in
-    again m _ comes c.in_default-verdict.is _ _ (placed_nowhere _ _ c.in_default-place.is) c.loop-at.invariant.1
+    let comes = comes_by m _ (c.apply_to-outcome.ensures ∙ sym (ap (row_outcome _ _ _) (c.in_ok-on.was ∙ ap Ok c.in-On.is))) in
+    again m _ comes c.in_ok-outcome.was _ _ (placed_nowhere _ _ c.in_default-place.is) c.loop-at.invariant.1
 
 -- ---- the new statement is measured and written
 
 -- all rows are taken
-taken : (l : After-loop-at) → record { verdict = Verdict.Accepted; holding = standing l.loop-at.count l.loop-at.areas }
+taken : (l : After-loop-at) → record { verdict = (Ok tt); holding = standing l.loop-at.count l.loop-at.areas }
     ≡ import_onto l.args.own.now (standing l.number-head.result.value l.loop-i.areas) l.args.sheet.now
 taken l =
     let a = l.args in
     let rows =
     rows_over a.own.now (standing l.number-head.result.value l.loop-i.areas) (standing l.loop-at.count l.loop-at.areas) a.sheet.now l.loop-at.at l.loop-at-test.false
     ∙ l.loop-at.invariant.2 in
-    sheet_taken a.own.now (standing l.number-head.result.value l.loop-i.areas) a.sheet.now _ l.judge-sheet_verdict.ensures l.in_default.is _ _
+    sheet_taken a.own.now (standing l.number-head.result.value l.loop-i.areas) a.sheet.now _ l.judge.ensures l.in_ok-judge.was _ _
     l.read_row-heading.ensures.next rows
 
 pub loop-j-init : goal.loop-j-init
@@ -212,7 +216,7 @@ loop-j-init c = (omega arith, put_none _ _ (omega arith) (omega arith))
 
 pub loop-j-preserved : goal.loop-j-preserved
 loop-j-preserved c =
-    let stands = within c.loop-j.j c.loop-at.count c.loop-j-test.true in (
+    let stands : (c.loop-j.j < most_areas) × (c.loop-j.j < c.loop-at.count) = omega (arith, c.min-standing.ensures) in (
       omega (arith, stands.0),
       put_next area_text _ _ c.loop-j.j area_width c.loop-j.invariant.1 _ stands.1 (omega (arith, stands.0, c.loop-at.invariant.0)) c.put_area-need.ensures,
     )
@@ -221,12 +225,12 @@ pub returns-then-out-need : goal.returns-then-out-need
 returns-then-out-need c =
     let a = c.args in
     let all =
-    all_put (standing c.loop-at.count c.loop-at.areas) c.loop-at.invariant.0 c.put_first-need.ensures c.loop-j.invariant.1 c.loop-j.invariant.0 c.loop-j-test.false in
+    all_put (standing c.loop-at.count c.loop-at.areas) c.loop-at.invariant.0 c.put_first-need.ensures c.loop-j.invariant.1 c.loop-j.invariant.0 (omega (arith, c.min-standing.ensures)) in
     let imported = taken (goal.at.returns-then-out-need c).After-loop-at in
     let read = reads (goal.at.returns-then-out-need c).Else-not-next-statement in
     gives_as (sym (onto_verdict_lem a.own.now a.statement.now a.sheet.now (standing c.number-head.result.value c.loop-i.areas) read _ imported))
     (onto_bytes_lem a.own.now a.statement.now a.sheet.now (standing c.number-head.result.value c.loop-i.areas) read _ imported)
-    (gives_written Verdict.Accepted _ _ _ _ refl (refused _ _ all.wrote (omega (arith, all.few)) _ c.if-out-need.true))
+    (gives_written (Ok tt) _ _ _ _ refl (refused _ _ all.wrote (omega (arith, all.few)) _ c.if-out-need.true))
 
 pub loop-k-init : goal.loop-k-init
 unfolding texts
@@ -234,7 +238,7 @@ loop-k-init c = (omega arith, put_none _ _ (omega arith) (omega arith))
 
 pub loop-k-preserved : goal.loop-k-preserved
 loop-k-preserved c =
-    let stands = within c.loop-k.k c.loop-at.count c.loop-k-test.true in (
+    let stands : (c.loop-k.k < most_areas) × (c.loop-k.k < c.loop-at.count) = omega (arith, c.min-standing.ensures) in (
       omega (arith, stands.0),
       put_next area_text _ _ c.loop-k.k area_width c.loop-k.invariant.1 _ stands.1 (omega (arith, stands.0, c.loop-at.invariant.0)) c.put_area-end.ensures,
     )
@@ -244,11 +248,11 @@ returns c =
     let a = c.args in
     let long = c.loop-at.invariant.0 in
     let all =
-    all_put (standing c.loop-at.count c.loop-at.areas) long c.put_first-need.ensures c.loop-j.invariant.1 c.loop-j.invariant.0 c.loop-j-test.false in
+    all_put (standing c.loop-at.count c.loop-at.areas) long c.put_first-need.ensures c.loop-j.invariant.1 c.loop-j.invariant.0 (omega (arith, c.min-standing.ensures)) in
     let put =
-    all_put (standing c.loop-at.count c.loop-at.areas) long c.put_first-end.ensures c.loop-k.invariant.1 c.loop-k.invariant.0 c.loop-k-test.false in
+    all_put (standing c.loop-at.count c.loop-at.areas) long c.put_first-end.ensures c.loop-k.invariant.1 c.loop-k.invariant.0 (omega (arith, c.min-standing.ensures)) in
     let imported = taken (goal.at.returns c).After-loop-at in
     let read = reads (goal.at.returns c).Else-not-next-statement in
     gives_as (sym (onto_verdict_lem a.own.now a.statement.now a.sheet.now (standing c.number-head.result.value c.loop-i.areas) read _ imported))
     (onto_bytes_lem a.own.now a.statement.now a.sheet.now (standing c.number-head.result.value c.loop-i.areas) read _ imported)
-    (gives_written Verdict.Accepted _ _ _ _ refl (accepted _ _ all.wrote (omega (arith, all.few)) _ _ _ c.if-out-need.false put.wrote))
+    (gives_written (Ok tt) _ _ _ _ refl (accepted _ _ all.wrote (omega (arith, all.few)) _ _ _ c.if-out-need.false put.wrote))

@@ -1,5 +1,5 @@
 -- `sheet_import::import` meets its contract. Four loops: the areas are read and judged, the rows taken, and the new statement measured and written.
-use Rattle.laws.proofs.{◌+◌, ◌-◌, ◌*◌, ◌≤◌, ◌≡◌, ℕ, List, length, take, drop}
+use Rattle.laws.proofs.{◌-◌, ◌*◌, ◌≤◌, ◌≡◌, length, take, drop}
 use Rattle.holding.specs.{most_areas, numbers_in}
 use Rattle.statement_format.specs.{texts, area_text, area_width}
 use Rattle.statement_field.specs.{Put}
@@ -11,9 +11,6 @@ use Rattle.sheet_import.proofs.import.Given as goal
 
 abbrev pub invariant-loop-i : goal.invariant-loop-i
 invariant-loop-i l = reading.Reading l.statement l.initial.next l.count l.areas l.numbers l.kept l.next l.i
-
-abbrev pub decreases-loop-i : goal.decreases-loop-i
-decreases-loop-i l = l.count - l.i
 
 abbrev pub invariant-loop-at : goal.invariant-loop-at
 invariant-loop-at l =
@@ -27,11 +24,5 @@ decreases-loop-at l = length l.sheet - l.at
 abbrev pub invariant-loop-j : goal.invariant-loop-j
 invariant-loop-j l = (l.j ≤ most_areas) × Put (area_width * l.j) l.initial.unkept l.initial.need (texts area_text (take l.j (take l.count l.areas))) l.unkept l.need
 
-abbrev pub decreases-loop-j : goal.decreases-loop-j
-decreases-loop-j l = most_areas - l.j
-
 abbrev pub invariant-loop-k : goal.invariant-loop-k
 invariant-loop-k l = (l.k ≤ most_areas) × Put (area_width * l.k) l.initial.out l.initial.end (texts area_text (take l.k (take l.count l.areas))) l.out l.end
-
-abbrev pub decreases-loop-k : goal.decreases-loop-k
-decreases-loop-k l = most_areas - l.k

@@ -1,6 +1,6 @@
 -- `sheet_write::put_quoted` meets its contract. The loop's invariant: what is left of the field, and the closing quote, put behind what was put, are all that
 -- stands behind the opening quote.
-use Rattle.laws.proofs.{ℕ, ◌+◌, ◌-◌, ◌≤◌, ◌<◌, ◌≡◌, sym, ap, ◌∙◌, List, [], ◌∷◌, ◌++◌, append_assoc, length, get_or, drop}
+use Rattle.laws.proofs.{ℕ, ◌+◌, ◌≤◌, ◌<◌, ◌≡◌, sym, ap, ◌∙◌, List, [], ◌∷◌, ◌++◌, append_assoc, length, get_or, drop}
 use Rattle.text.proofs.Writes.{wrote_then, wrote_as, wrote-length}
 use Rattle.sheet_read.specs.{quote}
 use Rattle.sheet_write.specs.{doubled, quoted}
@@ -15,14 +15,14 @@ module _ (field : List ℕ) (i : ℕ) where
   none_left : length field ≤ i → quote ∷ [] ≡ doubled (drop i field) ++ (quote ∷ [])
   none_left h = ap (λ (l : List ℕ). l ++ (quote ∷ [])) (sym (doubled_none field i h))
 
-pub loop-i-preserved : goal.loop-i-preserved
-loop-i-preserved c =
+pub loop-byte-preserved : goal.loop-byte-preserved
+loop-byte-preserved c =
     let put = c.put_doubled-next.ensures in
     let turn = c in
     let l = turn in
     let field = l.args.field.now in (
-      wrote-length put ∙ l.loop-i.invariant.0,
-      λ o p w. l.loop-i.invariant.1 o p (wrote_as (byte_first field l.loop-i.i turn.loop-i-test.true) (wrote_then put w)),
+      wrote-length put ∙ l.loop-byte.invariant.0,
+      λ o p w. l.loop-byte.invariant.1 o p (wrote_as (byte_first field l.loop-byte.byte-index turn.loop-byte-test.true) (wrote_then put w)),
     )
 
 pub returns : goal.returns
@@ -31,4 +31,4 @@ returns c =
     let l = c in
     let field = l.args.field.now in
     wrote_then l.put_byte-next.ensures
-    (l.loop-i.invariant.1 _ _ (wrote_as (none_left field l.loop-i.i c.loop-i-test.false) c.put_byte.ensures))
+    (l.loop-byte.invariant.1 _ _ (wrote_as (none_left field l.loop-byte.byte-index c.loop-byte-test.false) c.put_byte.ensures))

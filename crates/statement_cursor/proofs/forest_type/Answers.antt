@@ -12,12 +12,12 @@ pub returns-then-s-stop : goal.returns-then-s-stop
 unfolding type_at
 returns-then-s-stop c = field_unended _ _ _ _ _ _ c.if-at-eq0.false c.end_of-stop.ensures c.if-s-stop.true
 
-pub returns-in-Listed : goal.returns-in-Listed
+pub returns-in-Some : goal.returns-in-Some
 unfolding type_before
-returns-in-Listed c =
-    type_read _ _ _ _ _ c.if-at-eq0.false c.end_of-stop.ensures c.if-s-stop.false (sym c.read.ensures ∙ c.in-Listed.is)
+returns-in-Some c =
+    type_read _ _ _ _ _ c.if-at-eq0.false c.end_of-stop.ensures c.if-s-stop.false (sym c.read.ensures ∙ c.in-Some.is)
 
-pub returns-in-Unlisted : goal.returns-in-Unlisted
+pub returns-in-None : goal.returns-in-None
 unfolding type_before
-returns-in-Unlisted c =
-    type_read _ _ _ _ _ c.if-at-eq0.false c.end_of-stop.ensures c.if-s-stop.false (sym c.read.ensures ∙ c.in-Unlisted.is)
+returns-in-None c =
+    type_read _ _ _ _ _ c.if-at-eq0.false c.end_of-stop.ensures c.if-s-stop.false (sym c.read.ensures ∙ c.in-None.is)

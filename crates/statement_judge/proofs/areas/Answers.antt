@@ -1,25 +1,15 @@
--- `statement_judge::areas` meets its contract. The loop's invariant: what is kept so far and from here on makes the whole.
-use Rattle.laws.proofs.{◌≡◌, refl, arith, length, rules}
-use Rattle.laws.proofs.Standing.{as_long}
-use Rattle.laws.proofs.Turns.{every_end, every-out, every_more}
-use Rattle.holding.specs.{most_areas}
+-- `statement_judge::areas` meets its contract: the library's test of all is the definition's.
+use Rattle.std.proofs.lemmas.Iterator.{YieldsList-from_slice}
+use Rattle.std.proofs.lemmas.Iterator.Search.{all_from_yields_List}
+use Rattle.laws.proofs.{ap, ◌∙◌, rules}
+use borrow.Author.Tests.{tests}
+use Rattle.laws.specs.{every}
+use Rattle.holding.proofs.Items.{all_is_every}
 use Rattle.statement_carried.specs.{area_carried}
 use Rattle.statement_judge.proofs.areas.Goals as goal
 
-pub loop-i-init : goal.loop-i-init
-loop-i-init c = refl
-
-pub returns-then-n-i : goal.returns-then-n-i
-returns-then-n-i c = every_end _ _ _ _ _ _ c.loop-i.invariant c.if-n-i.true
-
-pub loop-i-preserved : goal.loop-i-preserved
-loop-i-preserved c =
-    let a = c.args.holding in
-    let long : length a.areas ≡ most_areas = search (rules, as_long) in
-    every_more area_carried a.areas a.count c.loop-i.i c.loop-i.kept _ c.loop-i.invariant _ _ c.if-n-i.false (omega (arith, long)) c.area-kept.ensures
-
 pub returns : goal.returns
 returns c =
-    let a = c.args.holding in
-    let long : length a.areas ≡ most_areas = search (rules, as_long) in
-    every-out area_carried a.areas a.count c.loop-i.i _ _ c.loop-i.invariant (omega (arith, long))
+    all_from_yields_List area_carried _ _ _ c.all.ensures.ran (YieldsList-from_slice _ cc) (λ x b q k. search (rules, tests))
+    ∙ all_is_every area_carried _
+    ∙ ap (every area_carried) c.standing.ensures

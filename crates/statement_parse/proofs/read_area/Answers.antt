@@ -1,6 +1,6 @@
 -- `statement_parse::read_area` meets its contract: each part is read at the place after the one before, as in the definition. The loop's invariant: the
 -- sub-areas left to read give, from here on, what all of them give from the start, and nothing else of the area changes.
-use Rattle.laws.proofs.{ℕ, ◌≡◌, ap, ◌∙◌, List, arith, set, length-set}
+use Rattle.laws.proofs.{ℕ, ◌≡◌, ap, ◌∙◌, List, set, length-set}
 use Rattle.holding.specs.{Sub, Area, with_subs}
 use Rattle.statement_parse.specs.{SubRead, AreaRead, area_begun, subs_from, subs_within, area_line_within}
 use Rattle.statement_parse.proofs.Items.{items_more, items_done}
@@ -21,12 +21,11 @@ loop-i-preserved c =
     let l = c.loop-i in
     let amounts = c in
     let read = c.read_sub-read.ensures in (
-      omega arith,
-      simp length-set l.invariant.1,
-      set-subs l.area (area_begun amounts.read_years-years.result amounts.read_amounts-amounts.result) _ (set l.area.subs l.i c.read_sub-read.result.sub) _ l.invariant.2,
+      simp length-set l.invariant.0,
+      set-subs l.area (area_begun amounts.read_years-years.result amounts.read_amounts-amounts.result) _ (set l.area.subs l.i c.read_sub-read.result.sub) _ l.invariant.1,
       items_more _ _ _ l.i l.area.subs l.next _ _ c.loop-i-test.true
           (ap (λ (x : SubRead). x.sub) read) (ap (λ (x : SubRead). x.next) read)
-          ∙ l.invariant.3,
+          ∙ l.invariant.2,
     )
 
 pub returns : goal.returns
@@ -35,7 +34,7 @@ returns c =
     let l = c.loop-i in
     let counted = c in
     let amounts = counted in
-    read_all (area_begun amounts.read_years-years.result amounts.read_amounts-amounts.result) l.area _ l.next _ l.invariant.2 (items_done _ _ _ l.i l.area.subs l.next c.loop-i-test.false ∙ l.invariant.3)
+    read_all (area_begun amounts.read_years-years.result amounts.read_amounts-amounts.result) l.area _ l.next _ l.invariant.1 (items_done _ _ _ l.i l.area.subs l.next c.loop-i-test.false ∙ l.invariant.2)
     ∙ simp (
       counted.number-count.ensures.value,
       amounts.read_amounts-amounts.ensures,

@@ -1,5 +1,5 @@
 -- `statement_parse::read_areas` meets its contract. The loop's invariant: the areas left to read give, from here on, what all of them give from the start.
-use Rattle.laws.proofs.{ℕ, ap, ◌∙◌, List, arith, length-set}
+use Rattle.laws.proofs.{ℕ, ap, ◌∙◌, List, length-set}
 use Rattle.holding.specs.{Area}
 use Rattle.statement_parse.specs.{AreaRead, areas_from_within, areas_within}
 use Rattle.statement_parse.proofs.Items.{items_more, items_done}
@@ -10,15 +10,14 @@ unfolding areas_from_within
 loop-i-preserved c =
     let l = c.loop-i in
     let read = c.read_area-read.ensures in (
-      omega arith,
-      simp length-set l.invariant.1,
+      simp length-set l.invariant.0,
       items_more _ _ _ l.i l.areas l.next _ _ c.loop-i-test.true
           (ap (λ (x : AreaRead). x.area) read) (ap (λ (x : AreaRead). x.next) read)
-          ∙ l.invariant.2,
+          ∙ l.invariant.1,
     )
 
 pub returns : goal.returns
 unfolding areas_within areas_from_within
 returns c =
     let l = c.loop-i in
-    ap (λ (x : List Area × ℕ). record { areas = x.0; next = x.1 }) (items_done _ _ _ l.i l.areas l.next c.loop-i-test.false ∙ l.invariant.2)
+    ap (λ (x : List Area × ℕ). record { areas = x.0; next = x.1 }) (items_done _ _ _ l.i l.areas l.next c.loop-i-test.false ∙ l.invariant.1)

@@ -1,5 +1,4 @@
 -- `statement_pass::pass_areas` meets its contract. The loop's invariant: what was found so far and what is found from here on make what is found of all.
-use Rattle.laws.proofs.{◌-◌}
 use Rattle.holding_look.specs.{balance_of, units_received, units_surrendered}
 use Rattle.statement_pass.proofs.Turns.{Along, Summed}
 use Rattle.statement_pass.proofs.pass_areas.Given as goal
@@ -10,6 +9,3 @@ invariant-loop-i l =
     × Summed l.s l.at l.count l.number units_received l.kept l.received l.next l.i
     × Summed l.s l.at l.count l.number units_surrendered l.kept l.surrendered l.next l.i
     × Summed l.s l.at l.count l.number balance_of l.kept l.balance l.next l.i
-
-abbrev pub decreases-loop-i : goal.decreases-loop-i
-decreases-loop-i l = l.count - l.i

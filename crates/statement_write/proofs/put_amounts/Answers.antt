@@ -7,11 +7,6 @@ use Rattle.statement_write.proofs.put_amounts.Goals as goal
 pub returns : goal.returns
 unfolding amounts_text joined
 returns c =
-    let surrendered = c in
-    let received = surrendered in
-    let stock = received in
-    let filed = stock in
-    let withdrawn = filed in
-    put_then (put_as (ap (λ (n : ℕ). number_text n 44) withdrawn.as_number-withdrawn.ensures) withdrawn.put_field-next.ensures)
-    (put_then filed.put_short-next.ensures
-    (put_then stock.put_field-next-2.ensures (put_then received.put_field-next-3.ensures (put_last surrendered.put_field.ensures))))
+    put_then (put_as (ap (λ (n : ℕ). number_text n 44) c.from-withdrawn.ensures) c.put_field-next.ensures)
+    (put_then c.put_short-next.ensures
+    (put_then c.put_field-next-2.ensures (put_then c.put_field-next-3.ensures (put_last c.put_field.ensures))))

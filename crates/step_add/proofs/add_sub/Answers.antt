@@ -12,15 +12,15 @@ pub added_area-requires : goal.added_area-requires
 unfolding add_cases area_cases
 added_area-requires c =
     let looked = c.args.looked in
-    let out = ruled_out _ (sym c.verdict-v.ensures ∙ c.in-Accepted.is) in
+    let out = ruled_out _ (sym c.verdict-v.ensures ∙ c.in-Ok.is) in
     let b = bounds _ (fields-kept looked.found _ (out 3) (out 4)) in
     let free = leb-false most_subs looked.area.count (out 7) in
     (free, omega (arith, b.stock, free))
 
-pub returns-in-Refused : goal.returns-in-Refused
+pub returns-in-Err : goal.returns-in-Err
 unfolding added
-returns-in-Refused c = refused _ _ c.verdict-v.ensures _ _ _ c.turned.ensures c.in-Refused.is
+returns-in-Err c = refused _ _ c.verdict-v.ensures _ _ _ c.turned.ensures c.in-Err.is
 
-pub returns-in-Accepted : goal.returns-in-Accepted
+pub returns-in-Ok : goal.returns-in-Ok
 unfolding added
-returns-in-Accepted c = taken _ _ c.verdict-v.ensures _ _ c.in-Accepted.is (simp c.added_area.ensures)
+returns-in-Ok c = taken _ _ c.verdict-v.ensures _ _ c.in-Ok.is (simp c.added_area.ensures)

@@ -10,13 +10,13 @@ use Rattle.step_file.proofs.file.Goals as goal
 pub settle-settled-requires : goal.settle-settled-requires
 unfolding file_cases area_cases
 settle-settled-requires c =
-    let out = ruled_out _ (sym c.verdict-v.ensures ∙ c.in-Accepted.is) in
+    let out = ruled_out _ (sym c.verdict-v.ensures ∙ c.in-Ok.is) in
     (fields-kept c.args.looked.found _ (out 2) (out 3), year_at_most _ (out 1))
 
-pub returns-in-Refused : goal.returns-in-Refused
+pub returns-in-Err : goal.returns-in-Err
 unfolding filed
-returns-in-Refused c = refused _ _ c.verdict-v.ensures _ _ _ c.turned.ensures c.in-Refused.is
+returns-in-Err c = refused _ _ c.verdict-v.ensures _ _ _ c.turned.ensures c.in-Err.is
 
-pub returns-in-Accepted : goal.returns-in-Accepted
+pub returns-in-Ok : goal.returns-in-Ok
 unfolding filed
-returns-in-Accepted c = taken _ _ c.verdict-v.ensures _ _ c.in-Accepted.is (simp c.settle-settled.ensures)
+returns-in-Ok c = taken _ _ c.verdict-v.ensures _ _ c.in-Ok.is (simp c.settle-settled.ensures)

@@ -9,13 +9,13 @@ use Rattle.step_open.proofs.open.Goals as goal
 pub overflow_add-result : goal.overflow_add-result
 unfolding open_cases
 overflow_add-result c =
-    let room : c.args.looked.count < most_areas = leb-false _ _ (ruled_out _ (sym c.verdict-v.ensures ∙ c.in-Accepted.is) 4) in
+    let room : c.args.looked.count < most_areas = leb-false _ _ (ruled_out _ (sym c.verdict-v.ensures ∙ c.in-Ok.is) 4) in
     omega (arith, room)
 
-pub returns-in-Refused : goal.returns-in-Refused
+pub returns-in-Err : goal.returns-in-Err
 unfolding opened
-returns-in-Refused c = refused _ _ c.verdict-v.ensures _ _ _ c.turned.ensures c.in-Refused.is
+returns-in-Err c = refused _ _ c.verdict-v.ensures _ _ _ c.turned.ensures c.in-Err.is
 
-pub returns-in-Accepted : goal.returns-in-Accepted
+pub returns-in-Ok : goal.returns-in-Ok
 unfolding opened
-returns-in-Accepted c = taken _ _ c.verdict-v.ensures _ _ c.in-Accepted.is (simp c.empty_area-area.ensures)
+returns-in-Ok c = taken _ _ c.verdict-v.ensures _ _ c.in-Ok.is (simp c.empty_area-area.ensures)

@@ -3,13 +3,13 @@ use Rattle.step_outcome.proofs.Laws.{refused, taken}
 use Rattle.step_plant.specs.{planted_area, planted}
 use Rattle.step_plant.proofs.plant.Goals as goal
 
-pub returns-in-Refused : goal.returns-in-Refused
+pub returns-in-Err : goal.returns-in-Err
 unfolding planted
-returns-in-Refused c = refused _ _ c.verdict-v.ensures _ _ _ c.turned.ensures c.in-Refused.is
+returns-in-Err c = refused _ _ c.verdict-v.ensures _ _ _ c.turned.ensures c.in-Err.is
 
-pub returns-in-Accepted : goal.returns-in-Accepted
+pub returns-in-Ok : goal.returns-in-Ok
 unfolding planted planted_area
-returns-in-Accepted c =
+returns-in-Ok c =
     let stand = c.find_stand-stand.ensures in
-    taken _ _ c.verdict-v.ensures _ _ c.in-Accepted.is
+    taken _ _ c.verdict-v.ensures _ _ c.in-Ok.is
     (simp (c.with_sub.ensures, c.planted_sub.ensures, stand.sub_value, stand.found_value))

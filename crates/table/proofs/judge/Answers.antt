@@ -5,4 +5,4 @@ use Rattle.table.proofs.judge.Goals as goal
 
 pub returns : goal.returns
 unfolding judged smallest weigh_all is_table
-returns c = simp (c.weigh.ensures, c.has_columns-kept.ensures)
+returns c = simp (c.refuse_if.ensures, c.is_empty-none.ensures, c.has_columns-kept.ensures)

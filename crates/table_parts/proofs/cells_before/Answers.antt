@@ -1,11 +1,17 @@
--- What a number more leaves of the sum of the lengths, and what the numbers that are passed make.
-use Rattle.laws.proofs.{arith}
-use Rattle.table_parts.proofs.Lengths.{cells_go_on}
+-- `table_parts::cells_before` meets its contract. The loop's invariant: the sum so far and the sum of what is left of the lengths make the whole.
+use Rattle.laws.proofs.{ap, ◌∙◌, arith, drop_of_length-le}
+use Rattle.laws.specs.{sum_of}
+use Rattle.table_parts.proofs.Lengths.{lengths_cut}
 use Rattle.table_parts.proofs.cells_before.Goals as goal
 
-pub loop-i-preserved : goal.loop-i-preserved
-loop-i-preserved c =
-    let i = c.loop-i.i in
-    let fits = c.type_inv.table i in
-    let more = cells_go_on c.args.table.now c.args.number i (omega arith) (omega arith) (omega arith) in
-    (omega arith, omega arith, omega arith, omega arith, omega arith)
+pub returns : goal.returns
+unfolding sum_of
+returns c =
+    let l = c.loop-length in
+    let lengths = c.part-length-items.result.now in
+    omega (
+      arith,
+      l.invariant.1,
+      ap sum_of (drop_of_length-le lengths c.loop-length-test.false),
+      ap sum_of (c.part-length-items.ensures ∙ lengths_cut c.args.table.now c.args.number c.min.result c.min.ensures),
+    )

@@ -1,12 +1,13 @@
--- `table_parts::column_length` meets its contract: past the table and past the tenth number there is no length.
-use Rattle.table_parts.proofs.Lengths.{no_length, past_length, length-read}
+-- `table_parts::column_length` meets its contract: what is no column has no length.
+use Rattle.laws.proofs.{ℕ, ap, ◌∙◌, List, arith, get_or}
+use Rattle.std.specs.Prelude.{Option}
+use Rattle.std.specs.Option.{unwrap_or}
+use Rattle.table_parts.specs.{length_of}
 use Rattle.table_parts.proofs.column_length.Goals as goal
 
-pub returns-then-table-number : goal.returns-then-table-number
-returns-then-table-number c = past_length _ _ c.if-table-number.true
-
-pub returns-then-number-ge-COLUMNS : goal.returns-then-number-ge-COLUMNS
-returns-then-number-ge-COLUMNS c = no_length c.args.table.now _ c.if-number-ge-COLUMNS.true
-
 pub returns : goal.returns
-returns c = length-read c.args.table.now _ c.if-number-ge-COLUMNS.false
+unfolding length_of
+returns c =
+    let number = c.args.number in
+    c.unwrap_or.ensures ∙ ap (λ (o : Option ℕ). unwrap_or o 0) c.copied.ensures ∙ c.get.ensures.lookup.4 (omega arith) 0
+    ∙ ap (λ (s : List ℕ). get_or s number 0) c.part-lengths.ensures

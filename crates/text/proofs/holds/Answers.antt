@@ -1,9 +1,7 @@
--- `text::holds` meets its contract: a byte that is there is found before the end.
-use Rattle.laws.proofs.{ℕ, ap, ◌∙◌, length, ltb}
-use native.Mathlib.Nat.{zero-add}
-use Rattle.text.specs.{holds}
+-- `text::holds` meets its contract: what the library looks for.
+use Rattle.laws.proofs.{◌∙◌}
+use Rattle.text.proofs.Widths.{holds_any}
 use Rattle.text.proofs.holds.Goals as goal
 
 pub returns : goal.returns
-unfolding holds
-returns c = ap (λ (k : ℕ). ltb k (length c.args.bytes.now)) (c.end_of.ensures ∙ zero-add _)
+returns c = c.contains.ensures.value ∙ holds_any c.args.byte c.args.bytes.now

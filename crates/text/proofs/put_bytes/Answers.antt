@@ -1,23 +1,22 @@
--- `text::put_bytes` meets its contract: all bytes have room, or the first of them, or none, and what is left out lies past the end.
-use Rattle.laws.proofs.{◌+◌, ◌-◌, ◌≤◌, sym, ◌∙◌, arith, length, rules}
-use Rattle.laws.proofs.Stores.{sets-out, sets_cut}
+-- `text::put_bytes` meets its contract: the bytes that have room are copied, and what is left out lies past the end.
+use Rattle.laws.proofs.{sym, ◌∙◌, arith, length-take, take}
+use Rattle.laws.proofs.Stores.{sets-out, copied}
+use Rattle.text.proofs.Writes.{room_stored}
 use Rattle.text.proofs.put_bytes.Goals as goal
-
-pub returns-then-out-at : goal.returns-then-out-at
-returns-then-out-at c =
-    let a = c.args in
-    record { stored = sym (sets-out a.out.now a.at a.bytes.now c.if-out-at.true); place = search rules; lent = omega arith }
-
-pub returns-then-room-bytes : goal.returns-then-room-bytes
-returns-then-room-bytes c =
-    let a = c.args in
-    let l = a.out.now in
-    let past : length l ≤ a.at + (length l - a.at - 0) = omega arith in
-    record {
-      stored = c.store.ensures ∙ sets_cut l a.at (length l - a.at - 0) a.bytes.now (omega arith) past;
-      place = search rules;
-      lent = omega arith;
-    }
+use Rattle.text.proofs.put_bytes.Goals.{then-at-out, else-at-out}
 
 pub returns : goal.returns
-returns c = record { stored = c.store-2.ensures; place = search rules; lent = omega arith }
+returns c =
+    let a = c.args in
+    record {
+      stored = elim c.if-at-out.branch [
+        | then-at-out w ↦
+            let many = w.min-many.result in
+            w.out-is
+            ∙ copied a.out.now _ (take many a.bytes.now) a.at _ w.copy_from_slice.ensures.after (omega (arith, length-take many a.bytes.now)) (omega arith)
+            ∙ room_stored a.out.now a.at many a.bytes.now (omega arith) w.min-many.ensures
+        | else-at-out w ↦ w.out-is ∙ sym (sets-out a.out.now a.at a.bytes.now w.if-at-out.false)
+      ];
+      place = c.saturating_add.ensures;
+      lent = omega arith;
+    }

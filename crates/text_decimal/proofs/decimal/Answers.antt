@@ -1,12 +1,12 @@
 -- `text_decimal::decimal` meets its contract, by what follows the whole number.
-use Rattle.laws.proofs.{◌∙◌, arith}
+use Rattle.laws.proofs.{◌∙◌, arith, length-take}
 use Rattle.text.proofs.Widths.{width_le}
 use Rattle.text_decimal.specs.{point}
 use Rattle.text_decimal.proofs.Laws.{none_behind, bare_point, too_many, with_decimals_lem}
 use Rattle.text_decimal.proofs.decimal.Goals as goal
 
 pub slice_bounds-read-end : goal.slice_bounds-read-end
-slice_bounds-read-end c = omega (arith, width_le point c.args.bytes.now, c.end_of-end.ensures)
+slice_bounds-read-end c = omega (arith, length-take c.end_of-end.result c.args.bytes.now, width_le point c.args.bytes.now, c.end_of-end.ensures)
 
 pub returns-then-bytes-end : goal.returns-then-bytes-end
 returns-then-bytes-end c = let r = c in

@@ -3,8 +3,8 @@ use Rattle.laws.proofs.{sym, ◌∙◌}
 use Rattle.text_decimal.proofs.Laws.{zeros-next, zeros_end}
 use Rattle.text_decimal.proofs.zeros.Goals as goal
 
-pub loop-left-preserved : goal.loop-left-preserved
-loop-left-preserved c = rw c.append-n.ensures (zeros-next _ _ c.loop-left-test.true ∙ c.loop-left.invariant)
+pub loop-preserved : goal.loop-preserved
+loop-preserved c = rw c.append-n.ensures (zeros-next _ _ _ c.loop-test.true ∙ c.loop.invariant)
 
 pub returns : goal.returns
-returns c = sym (zeros_end _ _ c.loop-left-test.false) ∙ c.loop-left.invariant
+returns c = sym (zeros_end _ _ _ c.loop-test.false) ∙ c.loop.invariant
