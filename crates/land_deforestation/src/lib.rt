@@ -40,6 +40,7 @@ fn find_faults(parcels: &[Parcel]) -> Faults
     found
 }
 
+#[tactic(auto, unfolding(crate::specs::Charge::cases, refusals::specs::Refusals::smallest, refusals::specs::Refusals::weigh_all, refusals::specs::Refusals::weighed))]
 fn judge(parcels: &[Parcel]) -> Verdict
     ensures { result ≡ smallest (cases (length parcels.now) parcels.now) }
 {

@@ -60,6 +60,7 @@ fn any_two_types(groups: &[Group]) -> bool
 }
 
 // The smallest number that applies to a list; what compares each group with each is asked of a short list alone.
+#[tactic(auto, unfolding(crate::specs::Hectares::cases, refusals::specs::Refusals::smallest, refusals::specs::Refusals::weigh_all, refusals::specs::Refusals::weighed))]
 fn judge(groups: &[Group]) -> Verdict
     ensures { result ≡ smallest (cases (length groups.now) (bare_in groups.now) groups.now) }
 {
