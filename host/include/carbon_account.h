@@ -38,7 +38,7 @@ extern "C" {
  * carbon_foot writes CARBON_FOOT_BYTES at most: "F," and three numbers of 13 digits, each with the byte that ends it.
  * carbon_import_sheet writes a statement. A book has CARBON_BOOK_BYTES at most, and carbon_export_sheet writes
  * CARBON_EXPORT_BYTES at most: the heading, and less than three bytes for each byte of the book and for its last end.
- * The deepest stack that was measured is 10728 bytes of a line or a foot, 24248 of an import and 23240 of an export; it
+ * The deepest stack that was measured is 10728 bytes of a line or a foot, 24232 of an import and 23272 of an export; it
  * does not grow with the areas or their sub-areas. */
 enum {
     CARBON_MOST_AREAS = 16,

@@ -1,7 +1,8 @@
 // The age of a hectare by its type, from its tree groups.
 #![tactic(auto)]
 
-ghost use Rattle.std.specs.Prelude.{◌≡◌, max};
+ghost use Rattle.std.specs.Prelude.{◌≡◌, max, take};
+ghost use Rattle.land_groups.specs.{most_groups};
 ghost use Rattle.land_ages.specs.{age_if, greatest_age, hectare_age};
 
 use forest::Forest;
@@ -28,12 +29,13 @@ fn greatest_age(groups: &Groups, leader: Group) -> u16
     age
 }
 
-// The age of the hectare whose type is that of `leader`, a group of its predominant species.
-pub fn hectare_age(groups: &Groups, leader: Group) -> u64
-    ensures { result ≡ hectare_age groups.now.listed.now leader.forest }
+// The age of the hectare whose type is that of `leader`, a group of its predominant species, by a list's first groups, as many as a hectare may have.
+pub fn hectare_age(groups: &[Group], leader: Group) -> u64
+    ensures { result ≡ hectare_age (take most_groups groups.now) leader.forest }
 {
+    let groups = Groups::first(groups);
     if leader.is_of(Forest::Indigenous) {
-        return u64::from(greatest_age(groups, leader));
+        return u64::from(greatest_age(&groups, leader));
     }
     groups.mean_age(leader.forest)
 }

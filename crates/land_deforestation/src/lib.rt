@@ -1,7 +1,7 @@
 // Deforestation of pre-1990 forest land: the emissions of parcels.
 #![tactic(auto)]
 
-ghost use Rattle.std.specs.Prelude.{◌≡◌, ◌*◌, ◌≤◌, length};
+ghost use Rattle.std.specs.Prelude.{◌≡◌, ◌*◌, ◌≤◌, length, take};
 ghost use Rattle.refusals.specs.{smallest};
 ghost use Rattle.land_deforestation.specs.{joined, faults_among, cases, emitted_of, total_of, emissions_of};
 
@@ -41,17 +41,14 @@ fn find_faults(parcels: &[Parcel]) -> Faults
 }
 
 #[tactic(auto, unfolding(crate::specs::Charge::cases, refusals::specs::Refusals::smallest, refusals::specs::Refusals::weigh_all, refusals::specs::Refusals::weighed))]
-fn judge(parcels: &[Parcel]) -> Verdict
-    ensures { result ≡ smallest (cases (length parcels.now) parcels.now) }
+fn judge(held: &[Parcel], count: usize) -> Verdict
+    ensures { result ≡ smallest (cases count held.now) }
 {
-    let found = find_faults(parcels);
+    let found = find_faults(held);
     refuse_if(found.bare, Refusal::ForestType)?;
     refuse_if(found.hectares, Refusal::Hectares)?;
     refuse_if(found.years, Refusal::YearRange)?;
-    refuse_if(
-        parcels.is_empty() | (MOST_PARCELS < parcels.len()),
-        Refusal::ParcelList,
-    )?;
+    refuse_if((count == 0) | (MOST_PARCELS < count), Refusal::ParcelList)?;
     refuse_if(found.order, Refusal::ParcelList)?;
     refuse_if(found.young, Refusal::NoTreesOfNineYears)
 }
@@ -76,11 +73,19 @@ fn total(cells: &[u16], parcels: &[Parcel]) -> Kilograms
     sum
 }
 
-// The emissions in tonnes, or the refusal of the list.
+// The emissions in tonnes, or the refusal of a list of `count` parcels, of which at least the first are held.
+pub fn calculate_held(held: &[Parcel], count: usize) -> Result<u64, Refusal>
+    ensures { result ≡ emissions_of count (take count held.now) }
+{
+    let parcels = &held[..count.min(held.len())];
+    judge(parcels, count)?;
+    let cells = schedules::schedule_four();
+    Ok(total(&cells, parcels).to_tonnes())
+}
+
+// The same of a list that is held whole.
 pub fn calculate(parcels: &[Parcel]) -> Result<u64, Refusal>
     ensures { result ≡ emissions_of (length parcels.now) parcels.now }
 {
-    judge(parcels)?;
-    let cells = schedules::schedule_four();
-    Ok(total(&cells, parcels).to_tonnes())
+    calculate_held(parcels, parcels.len())
 }

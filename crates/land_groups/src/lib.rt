@@ -1,8 +1,8 @@
 // The tree groups of one hectare: basal area by species, and the mean age of a type.
 #![tactic(auto)]
 
-ghost use Rattle.std.specs.Prelude.{◌≡◌, cond, ◌≤◌, length};
-ghost use Rattle.land_groups.specs.{of_type, area, weighted_age, species_area, weights_of, mean_age};
+ghost use Rattle.std.specs.Prelude.{◌≡◌, cond, ◌≤◌, length, take};
+ghost use Rattle.land_groups.specs.{most_groups, of_type, area, weighted_age, species_area, weights_of, mean_age};
 
 use forest::Forest;
 
@@ -59,6 +59,17 @@ fn weighted_if(counts: bool, g: Group) -> u64
     0
 }
 
+impl<'a> Groups<'a> {
+    // The first groups of a list, as many as a hectare may have.
+    pub fn first(listed: &'a [Group]) -> Groups<'a>
+        ensures { result.listed.now ≡ take most_groups listed.now }
+    {
+        Groups {
+            listed: &listed[..MOST_GROUPS.min(listed.len())],
+        }
+    }
+}
+
 impl Groups<'_> {
     pub fn species_area(&self, species: u16) -> u64
         ensures { result ≡ species_area self.now.listed.now species }
@@ -96,4 +107,18 @@ impl Groups<'_> {
         }
         age / area + 1
     }
+}
+
+// Of a list's first groups, as many as a hectare may have, the basal area of a species.
+pub fn species_area(groups: &[Group], species: u16) -> u64
+    ensures { result ≡ species_area (take most_groups groups.now) species }
+{
+    Groups::first(groups).species_area(species)
+}
+
+// Of the same the mean age of a type, 0 where there is none.
+pub fn mean_age(groups: &[Group], forest: Forest) -> u64
+    ensures { result ≡ mean_age (take most_groups groups.now) forest }
+{
+    Groups::first(groups).mean_age(forest)
 }

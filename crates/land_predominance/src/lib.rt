@@ -1,7 +1,8 @@
 // The predominant species of a hectare's tree groups.
 #![tactic(auto)]
 
-ghost use Rattle.std.specs.Prelude.{◌≡◌};
+ghost use Rattle.std.specs.Prelude.{◌≡◌, take};
+ghost use Rattle.land_groups.specs.{most_groups};
 ghost use Rattle.land_predominance.specs.{comes_before, leading, predominant_of};
 
 use forest::Forest;
@@ -25,7 +26,7 @@ fn lead(groups: &Groups, leader: Group, g: Group) -> Group
 }
 
 // A group of the predominant species.
-pub fn predominant(groups: &Groups) -> Group
+fn leader_of(groups: &Groups) -> Group
     ensures { result ≡ predominant_of groups.now.listed.now }
 {
     let none = Group {
@@ -42,4 +43,11 @@ pub fn predominant(groups: &Groups) -> Group
         leader = lead(groups, leader, *g);
     }
     leader
+}
+
+// A group of the predominant species of a list's first groups, as many as a hectare may have.
+pub fn predominant(groups: &[Group]) -> Group
+    ensures { result ≡ predominant_of (take most_groups groups.now) }
+{
+    leader_of(&Groups::first(groups))
 }

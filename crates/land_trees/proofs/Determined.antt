@@ -60,15 +60,15 @@ at_most_300 count bare (g ∷ gs) c =
     ((of_leader count g gs ok).aged.between 0 300 (λ h m t. (omega arith, (ok.ranges h m).age))).1
 
 -- a list that is not refused
-module _ (gs : List Group) (clear : Ok tt ≡ smallest (cases (length gs) (bare_in gs) gs)) where
-  pub few : length gs ≤ 64
-  few = (judged _ _ gs (sym clear)).at_most
+module _ (count : ℕ) (bare : Bool) (gs : List Group) (clear : Ok tt ≡ smallest (cases count bare gs)) where
+  pub few : count ≤ 64
+  few = (judged count bare gs (sym clear)).at_most
 
   -- its answer
-  pub when_clear : (leader : Group) (age : ℕ) → leader ≡ predominant_of gs → age ≡ hectare_age gs leader.forest → aged leader.forest age ≡ hectare_of gs
-  unfolding hectare_of held_of answer_of
+  pub when_clear : (leader : Group) (age : ℕ) → leader ≡ predominant_of gs → age ≡ hectare_age gs leader.forest → aged leader.forest age ≡ held_of count bare gs
+  unfolding held_of answer_of
   when_clear leader age l a = rw (a, l) (ap (λ (w : Verdict). answer_of w gs) clear)
 
   -- so an age is at most 300
   pub age_at_most : (leader : Group) (age : ℕ) → leader ≡ predominant_of gs → age ≡ hectare_age gs leader.forest → age ≤ 300
-  age_at_most leader age l a = rw (a, l) (at_most_300 _ _ gs (sym clear))
+  age_at_most leader age l a = rw (a, l) (at_most_300 count bare gs (sym clear))

@@ -7,7 +7,7 @@ ghost use Rattle.refusals.specs.{smallest};
 ghost use Rattle.land_trees.specs.{out_of_range, other_type, bare_in, cases, hectare_of};
 
 use forest::Forest;
-use land_groups::{Group, Groups, MOST_GROUPS};
+use land_groups::{Group, MOST_GROUPS};
 use refusals::{Refusal, Verdict, refuse_if};
 
 const OLDEST_TREES: u16 = 300;
@@ -78,9 +78,8 @@ pub fn determine(groups: &[Group]) -> Result<Hectare, Refusal>
     ensures { result ≡ hectare_of groups.now }
 {
     judge(groups)?;
-    let groups = Groups { listed: groups };
-    let leader = land_predominance::predominant(&groups);
-    let age = land_ages::hectare_age(&groups, leader) as u16;
+    let leader = land_predominance::predominant(groups);
+    let age = land_ages::hectare_age(groups, leader) as u16;
     Ok(Hectare {
         forest: leader.forest,
         age,

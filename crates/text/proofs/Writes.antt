@@ -6,8 +6,8 @@ use Rattle.laws.proofs.Stores.{sets-append, sets-out, sets_cut}
 use Rattle.text.specs.{Wrote, greatest}
 
 -- what has no room is not stored
-pub room_stored : (l : List ℕ) (at n : ℕ) (xs : List ℕ) → at ≤ length l → n ≡ min (length xs) (length l - at) → sets l at (take n xs) ≡ sets l at xs
-room_stored l at n xs h e =
+pub room_stored : (l : List ℕ) (at n : ℕ) (xs : List ℕ) → n ≡ min (length xs) (length l - at) → sets l at (take n xs) ≡ sets l at xs
+room_stored l at n xs e =
     ⊎_elim (λ short. sets_cut l at n xs (omega arith) (omega arith)) (λ fits. ap (sets l at) (take_all n xs (omega arith))) (below_or_not (length l - at) (length xs))
 
 -- past the greatest place there is nothing to store to

@@ -36,9 +36,10 @@ pub fn put_byte(out: &mut [u8], at: usize, byte: u8) -> usize
 pub fn put_bytes(out: &mut [u8], at: usize, bytes: &[u8]) -> usize
     ensures { Wrote out.old at bytes.now out.new result }
 {
-    if at < out.len() {
-        let many = bytes.len().min(out.len() - at);
-        out[at..at + many].copy_from_slice(&bytes[..many]);
+    let many = bytes.len().min(out.len().saturating_sub(at));
+    // One by one: for the library's copy the archive for C wants memmove from outside.
+    for i in 0..many {
+        out[at + i] = bytes[i];
     }
     at.saturating_add(bytes.len())
 }

@@ -1,6 +1,6 @@
--- `land_predominance::predominant` meets its contract: setting the groups left against the leader gives the predominant one.
+-- `land_predominance::leader_of` meets its contract: setting the groups left against the leader gives the predominant one.
 use Rattle.land_predominance.proofs.Leading.{first_leads, none_leads}
-use Rattle.land_predominance.proofs.predominant.Goals as goal
+use Rattle.land_predominance.proofs.leader_of.Goals as goal
 
 pub returns-in_default : goal.returns-in_default
 returns-in_default c = none_leads _ c.in_default.ensures.cases
