@@ -73,19 +73,26 @@ fn total(cells: &[u16], parcels: &[Parcel]) -> Kilograms
     sum
 }
 
-// The emissions in tonnes, or the refusal of a list of `count` parcels, of which at least the first are held.
-pub fn calculate_held(held: &[Parcel], count: usize) -> Result<u64, Refusal>
-    ensures { result ≡ emissions_of count (take count held.now) }
+// The emissions in tonnes, or the refusal of a list of `count` parcels, by those of them that are held.
+fn charge(held: &[Parcel], count: usize) -> Result<u64, Refusal>
+    requires { length held.now ≤ count }
+    ensures { result ≡ emissions_of count held.now }
 {
-    let parcels = &held[..count.min(held.len())];
-    judge(parcels, count)?;
+    judge(held, count)?;
     let cells = schedules::schedule_four();
-    Ok(total(&cells, parcels).to_tonnes())
+    Ok(total(&cells, held).to_tonnes())
 }
 
-// The same of a list that is held whole.
+// Of a list of `count` parcels that stand in an array, as many as it has places for.
+pub fn calculate_held(held: &[Parcel; MOST_PARCELS], count: usize) -> Result<u64, Refusal>
+    ensures { result ≡ emissions_of count (take count held.now) }
+{
+    charge(&held[..count.min(MOST_PARCELS)], count)
+}
+
+// Of a list that is lent whole.
 pub fn calculate(parcels: &[Parcel]) -> Result<u64, Refusal>
     ensures { result ≡ emissions_of (length parcels.now) parcels.now }
 {
-    calculate_held(parcels, parcels.len())
+    charge(parcels, parcels.len())
 }

@@ -1,6 +1,7 @@
 -- What is determined of a hectare: the type is that of a predominant species, and the age follows the rule of that type.
 use Rattle.std.specs.Prelude.{Ok, Err}
-use Rattle.laws.proofs.{ℕ, ◌≤◌, Bool, ◌≡◌, refl, sym, ap, subst, List, [], ◌∷◌, arith, length}
+use Rattle.laws.proofs.{ℕ, ◌≤◌, Bool, ◌≡◌, refl, sym, ap, subst, ◌∙◌, List, [], ◌∷◌, arith, length, take}
+use Rattle.std.proofs.lemmas.List.{take_all}
 use mathlib.Core.List.{Memᴰ}
 use native.Mathlib.Nat.{div-zero}
 use Rattle.laws.specs.{sum_by}
@@ -72,3 +73,11 @@ module _ (count : ℕ) (bare : Bool) (gs : List Group) (clear : Ok tt ≡ smalle
   -- so an age is at most 300
   pub age_at_most : (leader : Group) (age : ℕ) → leader ≡ predominant_of gs → age ≡ hectare_age gs leader.forest → age ≤ 300
   age_at_most leader age l a = rw (a, l) (at_most_300 count bare gs (sym clear))
+
+-- of a list that is not refused, what is asked of its first 64 groups is asked of all
+module _ (gs : List Group) (bare : Bool) (clear : Ok tt ≡ smallest (cases (length gs) bare gs)) where
+  pub of_all : (leader : Group) (age : ℕ) → leader ≡ predominant_of (take 64 gs) → age ≡ hectare_age (take 64 gs) leader.forest
+      → (leader ≡ predominant_of gs) × (age ≡ hectare_age gs leader.forest)
+  of_all leader age l a =
+      let all = take_all 64 gs (few (length gs) bare gs clear) in
+      (l ∙ ap predominant_of all, a ∙ ap (λ (hs : List Group). hectare_age hs leader.forest) all)

@@ -1,13 +1,9 @@
 -- `land_trees::determine` meets its contract, by the verdict: a clear one leaves few groups, so that the first of them are all, and an age of at most 300.
 use Rattle.std.specs.Prelude.{Err}
-use Rattle.laws.proofs.{◌≡◌, sym, ap, ◌∙◌, List, arith, rules}
-use Rattle.std.proofs.lemmas.List.{take_all}
+use Rattle.laws.proofs.{◌≡◌, sym, ap, ◌∙◌, arith, rules}
 use Rattle.refusals.specs.{Verdict}
-use Rattle.land_groups.specs.{Group}
-use Rattle.land_predominance.specs.{predominant_of}
-use Rattle.land_ages.specs.{hectare_age}
 use Rattle.land_trees.specs.{answer_of, held_of, hectare_of}
-use Rattle.land_trees.proofs.Determined.{few, age_at_most, when_clear}
+use Rattle.land_trees.proofs.Determined.{age_at_most, when_clear, of_all}
 use Rattle.land_trees.proofs.determine.Goals as goal
 
 pub returns-in_err-judge : goal.returns-in_err-judge
@@ -18,19 +14,13 @@ returns-in_err-judge c =
 
 pub overflow_cast-age : goal.overflow_cast-age
 overflow_cast-age c =
-    let gs = c.args.groups.now in
     let clear = sym c.in_ok-judge.was ∙ c.judge.ensures in
-    let whole = take_all 64 gs (few _ _ _ clear) in
-    let led = c.predominant-leader.ensures ∙ ap predominant_of whole in
-    let its_age = c.hectare_age-age.ensures ∙ ap (λ (l : List Group). hectare_age l c.predominant-leader.result.forest) whole in
-    omega (arith, age_at_most _ _ _ clear _ _ led its_age)
+    let all = of_all _ _ clear _ _ c.predominant-leader.ensures c.hectare_age-age.ensures in
+    omega (arith, age_at_most _ _ _ clear _ _ all.0 all.1)
 
 pub returns : goal.returns
 unfolding hectare_of
 returns c =
-    let gs = c.args.groups.now in
     let clear = sym c.in_ok-judge.was ∙ c.judge.ensures in
-    let whole = take_all 64 gs (few _ _ _ clear) in
-    let led = c.predominant-leader.ensures ∙ ap predominant_of whole in
-    let its_age = c.hectare_age-age.ensures ∙ ap (λ (l : List Group). hectare_age l c.predominant-leader.result.forest) whole in
-    when_clear _ _ _ clear _ _ led its_age
+    let all = of_all _ _ clear _ _ c.predominant-leader.ensures c.hectare_age-age.ensures in
+    when_clear _ _ _ clear _ _ all.0 all.1
